@@ -14,13 +14,13 @@ use Rattle.codec.specs.declared.number.WriteFault.{WriteFault}
 use Rattle.codec.specs.declared.number.WriteFault.the-variants.{TooFewBytes}
 
 -- the number that ends in the third byte; low is what the first two groups are worth
-abbrev third-byte : ℕ → List ℕ → Result (ℕ × List ℕ) NumberFault
+abbrev pub third-byte : ℕ → List ℕ → Result (ℕ × List ℕ) NumberFault
 third-byte low [] = Err Ends
 third-byte low (byte ∷ rest) =
     cond (ltb byte 128) (cond (ltb byte 4) (Ok (low + 16384 * byte, rest)) (Err TooLarge)) (Err TooLong)
 
 -- the number that ends in the second byte or later; low is what the first group is worth
-abbrev second-byte : ℕ → List ℕ → Result (ℕ × List ℕ) NumberFault
+abbrev pub second-byte : ℕ → List ℕ → Result (ℕ × List ℕ) NumberFault
 second-byte low [] = Err Ends
 second-byte low (byte ∷ rest) =
     cond (ltb byte 128) (Ok (low + 128 * (byte % 128), rest)) (third-byte (low + 128 * (byte % 128)) rest)

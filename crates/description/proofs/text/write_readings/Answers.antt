@@ -1,0 +1,20 @@
+use borrow.Author.Needs.{needs}
+use mathlib.Core.Path.{_≡_}
+use mathlib.Core.List.{_++_, append-assoc}
+use native.Mathlib.Omega.{arith}
+use Rattle.std.specs.Of.String.{string-bytes}
+use Rattle.description.proofs.Texts.{joined-more}
+use Rattle.description.specs.Text.{reading-text}
+use Rattle.description.proofs.text.write_readings.Needs as need
+
+pub loop-channel-again : need.loop-channel-again
+loop-channel-again g c =
+    let reading = reading-text (g .S·System .meaning (c .args .system .now)) (c .args .state) in
+    let k = c .loop-channel .channel in
+    let here : string-bytes (c .write-in-loop-channel .last .self) ≡ string-bytes (c .loop-channel .text) ++ reading k = search needs in
+    joined-more _ k reading (c .loop-channel .inv) here
+
+pub returns : need.returns
+returns g c =
+    let all : c .loop-channel .channel ≡ g .S·System .meaning (c .args .system .now) .channels = omega (arith, c .channels-channels .ensures) in
+    search (needs, append-assoc)

@@ -1,0 +1,3 @@
+pub mod Failure
+pub mod File
+pub mod Text

@@ -1,0 +1,9 @@
+pub mod Described
+pub mod Faults
+pub mod Grid
+pub mod Held
+pub mod Parts
+pub mod Behind
+pub mod Skips
+pub mod Spelled
+pub mod Tested

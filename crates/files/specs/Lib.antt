@@ -1,0 +1,6 @@
+pub mod Answer
+pub mod Refusal
+pub mod Sequence
+pub mod SystemFile
+pub mod Words
+pub mod Flattening

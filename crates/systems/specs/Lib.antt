@@ -1,0 +1,4 @@
+pub mod Bounded
+pub mod Meaning
+pub mod Layout
+pub mod Laws
