@@ -1,7 +1,7 @@
 -- What a file without a fault is known to hold.
 use mathlib.Core.Bool.{Bool, true, false, cond}
 use mathlib.Core.List.{List}
-use mathlib.Core.Path.{_≡_, refl, sym, ap, subst, _∙_}
+use mathlib.Core.Path.{_≡_, refl, sym, ap, subst}
 use Prim.Native.Nat.{ℕ, _+_, _-_, _*_, _<_, _≤_}
 use native.Mathlib.Omega.{arith}
 use lib.Dec.{ltb}
@@ -89,16 +89,19 @@ file-tested bytes place room h =
 
 -- a file that is granted the words from a place on, in a memory of so many
 pub record Granted (bytes : List ℕ) (place long at : ℕ) (file : TestedFile) : Type 0 where
-  pub no-fault : file-fault bytes place (long - at) ≡ None
   pub tested : FileTested bytes place (long - at)
   pub is : file ≡ file-parts bytes place
   pub inside : at + file .words ≤ long
   pub words-are : file .words ≡ words-taken (file .sizes .states) (file .sizes .channels)
 
-pub granted : (bytes : List ℕ) (place long at room : ℕ) (file : TestedFile) → room ≡ long - at
-    → (file-fault bytes place room ≡ None) × (file ≡ file-parts bytes place) → Granted bytes place long at file
-granted bytes place long at room file e ok =
-    let none : file-fault bytes place (long - at) ≡ None = ap (file-fault bytes place) (sym e) ∙ ok .0 in
+pub granted : (bytes : List ℕ) (place long at : ℕ) (file : TestedFile)
+  → file-fault bytes place (long - at) ≡ None → file ≡ file-parts bytes place → Granted bytes place long at file
+granted bytes place long at file none is =
     let tested = file-tested bytes place (long - at) none in
-    let words : file .words ≡ file-words bytes place = ap (λ f. f .words) (ok .1) in
-    record { no-fault = none; tested = tested; is = ok .1; inside = omega (arith, tested .room-enough); words-are = subst (λ f. f .words ≡ words-taken (f .sizes .states) (f .sizes .channels)) (sym (ok .1)) refl }
+    let words : file .words ≡ file-words bytes place = ap (λ f. f .words) is in
+    record {
+      tested = tested;
+      is = is;
+      inside = omega (arith, tested .room-enough);
+      words-are = subst (λ f. f .words ≡ words-taken (f .sizes .states) (f .sizes .channels)) (sym is) refl;
+    }

@@ -1,7 +1,8 @@
 //! The test of a whole system file, number by number, before a word is written.
+ghost use mathlib.Core.Path.{_≡_};
 ghost use Rattle.files.specs.Answer.{Unless};
 ghost use Rattle.files.specs.Sequence.{value-at, after, skip};
-ghost use Rattle.files.specs.SystemFile.{unread, refused, readings-fault, next-fault, row-fault, row-end, row-start, rows-fault, file-fault, file-parts};
+ghost use Rattle.files.specs.SystemFile.{unread, refused, next-allowed, readings-fault, next-fault, row-fault, row-end, row-start, rows-fault, file-fault, file-parts};
 use crate::fault::ReadFault;
 use crate::fault::Reason;
 use crate::sequence::read_number_at;
@@ -91,6 +92,17 @@ fn check_readings(bytes: &[u8], start: usize, state: u16, count: u16) -> Result<
     Ok(place)
 }
 
+/// What a next state may be, where there are so many states.
+fn next_allowed(states: u16) -> Allowed
+    ensures { λ r. ⌜ r ≡ next-allowed states ⌝ }
+{
+    Allowed {
+        least: 0,
+        most: states.saturating_sub(1),
+        otherwise: Reason::NextState,
+    }
+}
+
 /// The place behind the next states at a state.
 fn check_next_states(
     bytes: &[u8],
@@ -101,11 +113,7 @@ fn check_next_states(
 ) -> Result<usize, ReadFault>
     ensures { λ r. ⌜ Unless (next-fault (now (bytes .entry)) states state start count) (skip (now (bytes .entry)) count start) r ⌝ }
 {
-    let allowed = Allowed {
-        least: 0,
-        most: states.saturating_sub(1),
-        otherwise: Reason::NextState,
-    };
+    let allowed = next_allowed(states);
     let mut place = start;
     for _pair in 0..count {
         (_, place) = allowed_number(bytes, place, state, allowed)?;

@@ -5,7 +5,7 @@ ghost use Rattle.std.specs.Orderings.{Decides};
 ghost use Rattle.std.specs.Results.{Cases, isOk};
 ghost use Rattle.std.specs.declared.option.Option.the-variants.{Some, None};
 ghost use Rattle.systems.specs.Bounded.{within};
-ghost use Rattle.systems.specs.Layout.{layout, LaidOut, RowHeld, channel-count, controller-word, environment-word, move-fits, next-states-fit, next-word, reading-word, row-fault, row-place, row-word, row-words};
+ghost use Rattle.systems.specs.Layout.{layout, LaidOut, RowHeld, channel-count, controller-word, environment-word, move-fits, next-fits, next-states-fit, next-word, reading-word, row-fault, row-place, row-word, row-words};
 
 /// The most states that a stored system has.
 pub const MAX_STATES: u16 = 256;
@@ -115,13 +115,21 @@ fn is_move_count(count: u16) -> bool
     1 <= count && count <= MAX_MOVES
 }
 
+/// Whether the next state of a pair of moves is a state.
+fn next_fits(words: &[u16], state: u16, controller: u16, environment: u16) -> bool
+    requires { ⌜ RowHeld (now words) state ⌝ ∗ ⌜ controller < 16 ⌝ ∗ ⌜ environment < 16 ⌝ }
+    ensures { λ r. ⌜ r ≡ next-fits (now (words .entry)) state controller environment ⌝ }
+{
+    next_word(words, state, controller, environment) < words[STATES_AT]
+}
+
 /// Whether every next state that is used with the controller's move is a state.
 fn move_fits(words: &[u16], state: u16, controller: u16) -> bool
     requires { ⌜ RowHeld (now words) state ⌝ ∗ ⌜ environment-word (now words) state ≤ 16 ⌝ ∗ ⌜ controller < 16 ⌝ }
     ensures { λ r. ⌜ r ≡ move-fits (now (words .entry)) state controller ⌝ }
 {
     for environment in 0..environment_word(words, state) {
-        if next_word(words, state, controller, environment) >= words[STATES_AT] {
+        if !next_fits(words, state, controller, environment) {
             return false;
         }
     }

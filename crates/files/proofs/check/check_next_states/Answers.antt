@@ -3,7 +3,6 @@ use native.Mathlib.Omega.{arith}
 use Rattle.std.proofs.shelf.Results.{err-from-errBy}
 use Rattle.files.specs.Sequence.{after, skip}
 use Rattle.files.specs.SystemFile.{refused, next-allowed}
-use Rattle.files.specs.declared.fault.Reason.the-variants.{NextState}
 use Rattle.files.proofs.Skips.{skip-more, none-more, found-at}
 use Rattle.files.proofs.check.check_next_states.Needs as need
 
@@ -14,7 +13,7 @@ returns-in-Break-place c =
     rw (p .1, p .2)
     (found-at (λ place. refused bytes place (c .args .state) (next-allowed (c .args .states))) (λ j. skip bytes j (c .args .start))
     (c .args .count) (c .loop-pair .-pair) (c .loop-pair .place) _ (c .loop-pair .inv .1) (c .loop-pair .inv .0)
-    (ap (λ most. refused bytes (c .loop-pair .place) (c .args .state) (record { least = 0; most = most; otherwise = NextState })) (sym (c .saturating-sub .ensures)) ∙ c .in-Break-place .ensures tt) (omega arith))
+    (ap (refused bytes (c .loop-pair .place) (c .args .state)) (sym (c .next-allowed-allowed .ensures)) ∙ c .in-Break-place .ensures tt) (omega arith))
 
 pub loop-pair-again : need.loop-pair-again
 loop-pair-again c =
@@ -23,5 +22,5 @@ loop-pair-again c =
       ap (λ found. found .1) (read .1) ∙ ap (after bytes) (c .loop-pair .inv .0) ∙ sym (skip-more bytes (c .loop-pair .-pair) (c .args .start)),
       none-more (λ place. refused bytes place (c .args .state) (next-allowed (c .args .states))) (λ j. skip bytes j (c .args .start))
           (c .loop-pair .-pair) (c .loop-pair .place) (c .loop-pair .inv .1) (c .loop-pair .inv .0)
-          (ap (λ most. refused bytes (c .loop-pair .place) (c .args .state) (record { least = 0; most = most; otherwise = NextState })) (sym (c .saturating-sub .ensures)) ∙ read .0),
+          (ap (refused bytes (c .loop-pair .place) (c .args .state)) (sym (c .next-allowed-allowed .ensures)) ∙ read .0),
     )

@@ -5,51 +5,46 @@ use native.Mathlib.Omega.{arith}
 use borrow.Author.Needs.{needs}
 use borrow.Rule.Slice.PartMut.{putMid}
 use lib.ListN.{length, getD, drop}
-use Rattle.std.specs.declared.result.Result.{Result}
-use Rattle.std.specs.declared.result.Result.the-variants.{Ok}
 use Rattle.systems.specs.Layout.{row-words, row-place, words-taken, stored}
-use Rattle.files.specs.Answer.{unless}
 use Rattle.files.specs.Flattening.{ReadsAsFiled}
-use Rattle.files.specs.SystemFile.{FewMoves, row-start, row-at, states-at, file-read, described}
+use Rattle.files.specs.SystemFile.{FewMoves, row-start, row-at, states-at, described}
 use Rattle.files.specs.Words.{system-words, row-cell}
 use Rattle.files.specs.declared.check.TestedFile.{TestedFile}
-use Rattle.files.specs.declared.fault.ReadFault.{ReadFault}
-use Rattle.files.specs.declared.system_read.SystemRead.{SystemRead}
 use Rattle.files.proofs.Described.{words-are, layout-holds, reads-as-filed}
 use Rattle.files.proofs.Parts.{put-is, drop-put, part-long}
 use Rattle.files.proofs.Tested.{granted}
-use Rattle.files.proofs.system_read.read_system.Needs as need
+use Rattle.files.proofs.system_read.lay_out.Needs as need
 
 pub add-at : need.add-at
 add-at c =
-    let file = granted (c .args .bytes .now) (c .args .place) (length (c .args .memory .now)) (c .args .at) (c .saturating-sub .result) (c .in-Continue-file .file) (c .saturating-sub .ensures) (c .in-Continue-file .ensures tt) in
+    let file = granted (c .args .bytes .now) (c .args .place) (length (c .args .memory .now)) (c .args .at) (c .args .file) (c .pre .0) (c .pre .1) in
     let h = file .inside in
     search needs
 
 pub offset-memory-at : need.offset-memory-at
 offset-memory-at c =
-    let file = granted (c .args .bytes .now) (c .args .place) (length (c .args .memory .now)) (c .args .at) (c .saturating-sub .result) (c .in-Continue-file .file) (c .saturating-sub .ensures) (c .in-Continue-file .ensures tt) in
+    let file = granted (c .args .bytes .now) (c .args .place) (length (c .args .memory .now)) (c .args .at) (c .args .file) (c .pre .0) (c .pre .1) in
     let h = file .inside in
     search needs
 
 pub part-write-system-end : need.part-write-system-end
 part-write-system-end c =
-    let file = granted (c .args .bytes .now) (c .args .place) (length (c .args .memory .now)) (c .args .at) (c .saturating-sub .result) (c .in-Continue-file .file) (c .saturating-sub .ensures) (c .in-Continue-file .ensures tt) in
+    let file = granted (c .args .bytes .now) (c .args .place) (length (c .args .memory .now)) (c .args .at) (c .args .file) (c .pre .0) (c .pre .1) in
     let h = file .inside in
     search needs
 
 pub write-system-requires : need.write-system-requires
 write-system-requires c κs =
-    let file = granted (c .args .bytes .now) (c .args .place) (length (c .args .memory .now)) (c .args .at) (c .saturating-sub .result) (c .in-Continue-file .file) (c .saturating-sub .ensures) (c .in-Continue-file .ensures tt) in
+    let file = granted (c .args .bytes .now) (c .args .place) (length (c .args .memory .now)) (c .args .at) (c .args .file) (c .pre .0) (c .pre .1) in
     let bytes = c .args .bytes .now in
     let few : TestedFile → Type 0 = λ f. (w : ℕ) → w < f .sizes .states → FewMoves bytes (f .sizes .channels) (row-start bytes (f .sizes .channels) (f .start) w) in (
-      part-long (c .args .memory .now) (c .args .at) (c .in-Continue-file .file .words) (file .inside) ∙ file .words-are,
+      part-long (c .args .memory .now) (c .args .at) (c .args .file .words) (file .inside) ∙ file .words-are,
       subst few (sym (file .is)) (λ w l. let row = file .tested .rows w l in (row .controller .high, row .environment .high)),
     )
 
 pub returns : need.returns
 returns c =
-    let file = granted (c .args .bytes .now) (c .args .place) (length (c .args .memory .now)) (c .args .at) (c .saturating-sub .result) (c .in-Continue-file .file) (c .saturating-sub .ensures) (c .in-Continue-file .ensures tt) in
+    let file = granted (c .args .bytes .now) (c .args .place) (length (c .args .memory .now)) (c .args .at) (c .args .file) (c .pre .0) (c .pre .1) in
     let bytes = c .args .bytes .now in
     let place = c .args .place in
     let memory = c .args .memory .now in
@@ -60,15 +55,13 @@ returns c =
     (length words ≡ words-taken (f .sizes .states) (f .sizes .channels)) × (getD words 0 0 ≡ f .sizes .states) × (getD words 1 0 ≡ f .sizes .channels)
     × ((w j : ℕ) → w < f .sizes .states → j < row-words (f .sizes .channels)
     → getD words (row-place (f .sizes .channels) w + j) 0 ≡ row-cell bytes (f .sizes .channels) (row-start bytes (f .sizes .channels) (f .start) w) j) in
-    let long : length words ≡ c .in-Continue-file .file .words = c .write-system .kept .words ∙ part-long memory at (c .in-Continue-file .file .words) (file .inside) in
+    let long : length words ≡ c .args .file .words = c .write-system .kept .words ∙ part-long memory at (c .args .file .words) (file .inside) in
     let done = subst Written (file .is) (long ∙ file .words-are, c .write-system .ensures .states, c .write-system .ensures .channels, c .write-system .ensures .rows) in
     let laid : words ≡ system-words m = words-are bytes place words (done .0) (done .1) (done .2) (done .3) in
-    let after : List ℕ = putMid at (at + c .in-Continue-file .file .words - at) memory words in
-    let exit = put-is memory words (system-words m) at (c .in-Continue-file .file .words) laid (sym long ∙ ap length laid) in
+    let after : List ℕ = putMid at (at + c .args .file .words - at) memory words in
+    let exit = put-is memory words (system-words m) at (c .args .file .words) laid (sym long ∙ ap length laid) in
     let behind = drop-put memory (system-words m) at (omega (arith, file .inside)) in
-    let answered : TestedFile → Result SystemRead ReadFault = λ f. Ok (record { words = f .words; end = f .end }) in
     record {
-      answer = ap answered (file .is) ∙ sym (ap (λ fault. unless fault (file-read bytes place)) (file .no-fault));
       words = exit;
       system = ap stored (ap (drop at) exit ∙ behind) ∙ layout-holds bytes place (length memory - at) (file .tested) (drop (at + length (system-words m)) memory);
       filed =
