@@ -1,2 +1,3 @@
 pub mod Filed
 pub mod Found
+pub mod Encoded

@@ -8,6 +8,7 @@ pub use number::NumberFaultPartialEq;
 pub use number::WriteFault;
 pub use number::WriteFaultDebug;
 pub use number::WriteFaultPartialEq;
+pub use number::encoded_len;
 pub use number::read_number;
 pub use number::write_number;
 pub use reading::file_reading;

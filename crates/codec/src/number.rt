@@ -1,7 +1,8 @@
 //! Numbers of 16 bits in groups of seven bits, the least group first; the high bit is set on every byte but the last.
 ghost use mathlib.Core.Path.{_≡_};
 ghost use mathlib.Core.List.{List};
-ghost use lib.ListN.{drop};
+ghost use Prim.Native.Nat.{_≤_};
+ghost use lib.ListN.{length, drop};
 ghost use Rattle.std.specs.declared.result.Result.the-variants.{Ok};
 ghost use Rattle.std.specs.Vec.{made};
 ghost use Rattle.codec.specs.Number.{number, value-and-rest, encoded, put-answer, put-in-front, NoneShorter};
@@ -64,6 +65,20 @@ pub fn read_number(bytes: &[u8]) -> Result<(u16, &[u8]), NumberFault>
         return Err(NumberFault::TooLarge);
     }
     Ok((low + THIRD_GROUP * u16::from(*third), rest))
+}
+
+/// How many bytes the value takes.
+pub fn encoded_len(value: u16) -> usize
+    ensures value { λ r. ⌜ r ≡ length (encoded value) ⌝ }
+    ensures bound { λ r. ⌜ r ≤ 3 ⌝ }
+{
+    if value < SECOND_GROUP {
+        1
+    } else if value < THIRD_GROUP {
+        2
+    } else {
+        3
+    }
 }
 
 /// Writes the value in the fewest bytes at the front of the bytes, and answers how many these are.

@@ -36,7 +36,7 @@ pub record Storable (m : Meaning) : Type 0 where
   pub no-next : (w a b : ℕ) → (w < m .states → a < m .controller-moves w → b < m .environment-moves w → ⊥) → m .next w a b ≡ 0
 
 -- systems that answer each question alike are equal
-same-meaning : (s t : Meaning) → s .states ≡ t .states → s .channels ≡ t .channels
+pub same-meaning : (s t : Meaning) → s .states ≡ t .states → s .channels ≡ t .channels
     → ((w k : ℕ) → s .reading w k ≡ t .reading w k)
     → ((w : ℕ) → s .controller-moves w ≡ t .controller-moves w)
     → ((w : ℕ) → s .environment-moves w ≡ t .environment-moves w)

@@ -1,9 +1,12 @@
+pub mod Complete
 pub mod Described
 pub mod Faults
 pub mod Grid
 pub mod Held
 pub mod Parts
 pub mod Behind
+pub mod Puts
 pub mod Skips
 pub mod Spelled
 pub mod Tested
+pub mod Unspelled

@@ -1,16 +1,16 @@
 -- What a file without a fault is known to hold.
 use mathlib.Core.Bool.{Bool, true, false, cond}
 use mathlib.Core.List.{List}
-use mathlib.Core.Path.{_≡_, refl, sym, ap, subst}
+use mathlib.Core.Path.{_≡_, refl, sym, ap, subst, _∙_}
 use Prim.Native.Nat.{ℕ, _+_, _-_, _*_, _<_, _≤_}
 use native.Mathlib.Omega.{arith}
 use lib.Dec.{ltb}
-use Rattle.std.proofs.shelf.Tests.{ltb-false}
+use Rattle.std.proofs.shelf.Tests.{cond-true, cond-false, le-ltb, ltb-false}
 use Rattle.std.specs.declared.option.Option.{Option}
 use Rattle.std.specs.declared.option.Option.the-variants.{Some, None}
 use Rattle.systems.specs.Bounded.{within, or-else}
 use Rattle.systems.specs.Layout.{words-taken}
-use Rattle.systems.proofs.Bounded.{or-else-none, first-below-none-all, within-true}
+use Rattle.systems.proofs.Bounded.{or-else-none, first-below-none-all, first-below-none-from, within-true, within-from}
 use Rattle.files.specs.Sequence.{value-at, after, skip, nth}
 use Rattle.files.specs.SystemFile.{unread, refused, fault, states-allowed, channels-allowed, moves-allowed, next-allowed, controller-place, environment-place, next-place, next-numbers, readings-fault, next-fault, row-fault, row-start, rows-fault, states-at, channels-place, channels-at, rows-place, row-at, file-words, file-fault, file-parts}
 use Rattle.files.specs.declared.check.Allowed.{Allowed}
@@ -86,6 +86,38 @@ file-tested bytes place room h =
       room-enough = ltb-false room (file-words bytes place) (none-unless short (fault TooShort (channels-place bytes place) 0) (third .0));
       rows = rows-tested bytes (states-at bytes place) (channels-at bytes place) (rows-place bytes place) (third .1);
     }
+
+-- and the other way round
+none-from : {X : Type 0} (a b : Option X) → a ≡ None → b ≡ None → or-else a b ≡ None
+none-from a b e f = ap (λ o. or-else o b) e ∙ f
+
+refused-from : (bytes : List ℕ) (place w : ℕ) (allowed : Allowed) → Fits bytes place w (allowed .least) (allowed .most) → refused bytes place w allowed ≡ None
+refused-from bytes place w allowed ok =
+    none-from (unread bytes place w) (cond (within (allowed .least) (allowed .most) (value-at bytes place)) None (Some (fault (allowed .otherwise) place w)))
+    (ok .read) (cond-true _ _ _ (within-from (allowed .least) (allowed .most) (value-at bytes place) (ok .low) (ok .high)))
+
+row-fault-from : (bytes : List ℕ) (n c w start : ℕ) → RowTested bytes n c w start → row-fault bytes n c w start ≡ None
+row-fault-from bytes n c w start ok =
+    let controller = refused bytes (controller-place bytes c start) w moves-allowed in
+    let environment = refused bytes (environment-place bytes c start) w moves-allowed in
+    let next = next-fault bytes n w (next-place bytes c start) (next-numbers bytes c start) in
+    none-from (readings-fault bytes w start c) (or-else controller (or-else environment next)) (first-below-none-from c (λ j. unread bytes (skip bytes j start) w) (ok .readings))
+    (none-from controller (or-else environment next) (refused-from bytes (controller-place bytes c start) w moves-allowed (ok .controller))
+    (none-from environment next (refused-from bytes (environment-place bytes c start) w moves-allowed (ok .environment))
+    (first-below-none-from (next-numbers bytes c start) (λ j. refused bytes (skip bytes j (next-place bytes c start)) w (next-allowed n))
+      (λ j l. refused-from bytes (skip bytes j (next-place bytes c start)) w (next-allowed n) (ok .next j l)))))
+
+pub file-fault-from : (bytes : List ℕ) (place room : ℕ) → FileTested bytes place room → file-fault bytes place room ≡ None
+file-fault-from bytes place room ok =
+    let n = states-at bytes place in
+    let c = channels-at bytes place in
+    let channels = refused bytes (channels-place bytes place) 0 channels-allowed in
+    let memory = cond (ltb room (file-words bytes place)) (Some (fault TooShort (channels-place bytes place) 0)) None in
+    let rows = rows-fault bytes n c (rows-place bytes place) in
+    none-from (refused bytes place 0 states-allowed) (or-else channels (or-else memory rows)) (refused-from bytes place 0 states-allowed (ok .states))
+    (none-from channels (or-else memory rows) (refused-from bytes (channels-place bytes place) 0 channels-allowed (ok .channels))
+    (none-from memory rows (cond-false _ _ _ (le-ltb room (file-words bytes place) (ok .room-enough)))
+    (first-below-none-from n (λ w. row-fault bytes n c w (row-at bytes place w)) (λ w l. row-fault-from bytes n c w (row-at bytes place w) (ok .rows w l)))))
 
 -- a file that is granted the words from a place on, in a memory of so many
 pub record Granted (bytes : List ℕ) (place long at : ℕ) (file : TestedFile) : Type 0 where

@@ -8,19 +8,29 @@ use Rattle.systems.specs.Layout.{LaidOut, stored}
 use Rattle.systems.specs.Meaning.{Meaning}
 use Rattle.files.specs.Sequence.{Spells}
 
+-- the readings of a state, as filed
+abbrev pub readings-flattened : Meaning → ℕ → List ℕ
+readings-flattened m w = listed-below (m .channels) λ k. filed (m .reading w k)
+
+-- the next states of a controller move at a state
+abbrev pub move-flattened : Meaning → ℕ → ℕ → List ℕ
+move-flattened m w a = listed-below (m .environment-moves w) (m .next w a)
+
 -- the next states of a state, the environment's move fastest
 abbrev pub next-flattened : Meaning → ℕ → List ℕ
-next-flattened m w = joined-below (m .controller-moves w) λ a. listed-below (m .environment-moves w) (m .next w a)
+next-flattened m w = joined-below (m .controller-moves w) (move-flattened m w)
 
 -- the numbers of a state: its readings, p, q and its next states
 abbrev pub row-flattened : Meaning → ℕ → List ℕ
-row-flattened m w =
-    listed-below (m .channels) (λ k. filed (m .reading w k))
-    ++ (m .controller-moves w ∷ m .environment-moves w ∷ next-flattened m w)
+row-flattened m w = readings-flattened m w ++ (m .controller-moves w ∷ m .environment-moves w ∷ next-flattened m w)
+
+-- the numbers of so many states
+abbrev pub rows-flattened : Meaning → ℕ → List ℕ
+rows-flattened m n = joined-below n (row-flattened m)
 
 -- the numbers of a system: n, c, and then state by state
 abbrev pub flattened : Meaning → List ℕ
-flattened m = m .states ∷ m .channels ∷ joined-below (m .states) (row-flattened m)
+flattened m = m .states ∷ m .channels ∷ rows-flattened m (m .states)
 
 -- the words hold a system, and the bytes from place to end are just the numbers of that system
 abbrev pub ReadsAsFiled : List ℕ → ℕ → ℕ → List ℕ → Type 0

@@ -4,3 +4,5 @@ pub mod Sequence
 pub mod SystemFile
 pub mod Words
 pub mod Flattening
+pub mod SystemWrite
+pub mod Put

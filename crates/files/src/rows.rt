@@ -116,7 +116,7 @@ fn write_rows(words: &mut [u16], bytes: &[u8], start: usize, sizes: Sizes)
 }
 
 /// Writes the system whose rows begin at the place.
-pub(crate) fn write_system(words: &mut [u16], bytes: &[u8], start: usize, sizes: Sizes)
+pub(crate) fn write_words(words: &mut [u16], bytes: &[u8], start: usize, sizes: Sizes)
     requires { ⌜ length (now words) ≡ words-taken (sizes .states) (sizes .channels) ⌝ ∗ ⌜ ((w : ℕ) → w < sizes .states → FewMoves (now bytes) (sizes .channels) (row-start (now bytes) (sizes .channels) start w)) ⌝ }
     ensures states { λ _. ⌜ getD (now (words .exit)) 0 0 ≡ sizes .states ⌝ }
     ensures channels { λ _. ⌜ getD (now (words .exit)) 1 0 ≡ sizes .channels ⌝ }

@@ -14,7 +14,7 @@ ghost use Rattle.files.specs.Words.{put-at, system-words};
 use crate::check::TestedFile;
 use crate::check::check_file;
 use crate::fault::ReadFault;
-use crate::rows::write_system;
+use crate::rows::write_words;
 
 /// What reading a system file took and gave.
 #[derive(Clone, Copy, Debug, PartialEq, Eq)]
@@ -54,7 +54,7 @@ fn lay_out(bytes: &[u8], place: usize, file: TestedFile, memory: &mut [u16], at:
     ensures system { λ _. ⌜ stored (drop at (now (memory .exit))) ≡ described (now (bytes .entry)) place ⌝ }
     ensures filed { λ _. ⌜ ReadsAsFiled (now (bytes .entry)) place (file .end) (drop at (now (memory .exit))) ⌝ }
 {
-    write_system(
+    write_words(
         &mut memory[at..at + file.words],
         bytes,
         file.start,

@@ -27,14 +27,14 @@ offset-memory-at c =
     let h = file .inside in
     search needs
 
-pub part-write-system-end : need.part-write-system-end
-part-write-system-end c =
+pub part-write-words-end : need.part-write-words-end
+part-write-words-end c =
     let file = granted (c .args .bytes .now) (c .args .place) (length (c .args .memory .now)) (c .args .at) (c .args .file) (c .pre .0) (c .pre .1) in
     let h = file .inside in
     search needs
 
-pub write-system-requires : need.write-system-requires
-write-system-requires c κs =
+pub write-words-requires : need.write-words-requires
+write-words-requires c κs =
     let file = granted (c .args .bytes .now) (c .args .place) (length (c .args .memory .now)) (c .args .at) (c .args .file) (c .pre .0) (c .pre .1) in
     let bytes = c .args .bytes .now in
     let few : TestedFile → Type 0 = λ f. (w : ℕ) → w < f .sizes .states → FewMoves bytes (f .sizes .channels) (row-start bytes (f .sizes .channels) (f .start) w) in (
@@ -49,14 +49,14 @@ returns c =
     let place = c .args .place in
     let memory = c .args .memory .now in
     let at = c .args .at in
-    let words = c .write-system .last .words in
+    let words = c .write-words .last .words in
     let m = described bytes place in
     let Written : TestedFile → Type 0 = λ f.
     (length words ≡ words-taken (f .sizes .states) (f .sizes .channels)) × (getD words 0 0 ≡ f .sizes .states) × (getD words 1 0 ≡ f .sizes .channels)
     × ((w j : ℕ) → w < f .sizes .states → j < row-words (f .sizes .channels)
     → getD words (row-place (f .sizes .channels) w + j) 0 ≡ row-cell bytes (f .sizes .channels) (row-start bytes (f .sizes .channels) (f .start) w) j) in
-    let long : length words ≡ c .args .file .words = c .write-system .kept .words ∙ part-long memory at (c .args .file .words) (file .inside) in
-    let done = subst Written (file .is) (long ∙ file .words-are, c .write-system .ensures .states, c .write-system .ensures .channels, c .write-system .ensures .rows) in
+    let long : length words ≡ c .args .file .words = c .write-words .kept .words ∙ part-long memory at (c .args .file .words) (file .inside) in
+    let done = subst Written (file .is) (long ∙ file .words-are, c .write-words .ensures .states, c .write-words .ensures .channels, c .write-words .ensures .rows) in
     let laid : words ≡ system-words m = words-are bytes place words (done .0) (done .1) (done .2) (done .3) in
     let after : List ℕ = putMid at (at + c .args .file .words - at) memory words in
     let exit = put-is memory words (system-words m) at (c .args .file .words) laid (sym long ∙ ap length laid) in
