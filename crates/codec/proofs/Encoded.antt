@@ -13,10 +13,10 @@ use Rattle.codec.specs.Number.{number, encoded}
 pub number-encoded : (n : ℕ) (rest : List ℕ) → n < 65536 → number (encoded n ++ rest) ≡ Ok (n, rest)
 number-encoded n rest small =
     elim (cases-lt n 128) [
-      inl one ↦ rw (lt-ltb n 128 one) (grind (arith, tells))
-    | inr more ↦ elim (cases-lt n 16384) [
-        inl two ↦ rw (le-ltb n 128 more, lt-ltb n 16384 two) (grind (arith, tells))
-      | inr three ↦ rw (le-ltb n 128 more, le-ltb n 16384 three) (grind (arith, tells))
+      | inl one ↦ rw (lt-ltb n 128 one) (grind (arith, tells))
+      | inr more ↦ elim (cases-lt n 16384) [
+        | inl two ↦ rw (le-ltb n 128 more, lt-ltb n 16384 two) (grind (arith, tells))
+        | inr three ↦ rw (le-ltb n 128 more, le-ltb n 16384 three) (grind (arith, tells))
       ]
     ]
 

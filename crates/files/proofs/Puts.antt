@@ -25,7 +25,7 @@ use Rattle.files.specs.Words.{put-at}
 
 -- a part from a place on, in front of which an encoding was written
 pub written-at : (bytes encoding : List ℕ) (place : ℕ) → place + length encoding ≤ length bytes
-  → putMid place (length bytes - place) bytes (put-in-front encoding (take (length bytes - place) (drop place bytes))) ≡ put-at bytes place encoding
+    → putMid place (length bytes - place) bytes (put-in-front encoding (take (length bytes - place) (drop place bytes))) ≡ put-at bytes place encoding
 written-at bytes encoding place fits =
     let rest = take-rest bytes place in
     let room : length encoding ≤ length (drop place bytes) = simp length-drop (omega arith) in
@@ -47,8 +47,8 @@ put-put bytes x y place fits =
     let group : put-at bytes place x ≡ once = sym (append-assoc (take place bytes) x back) in
     let long : length front ≡ end = length-append (take place bytes) x ∙ ap (λ n. n + length x) (length-take-le place bytes (omega arith)) in
     let rest : drop (end + length y) once ≡ drop (place + length (x ++ y)) bytes =
-      sym (drop-drop (length y) end once) ∙ ap (drop (length y)) (drop-at front back end long) ∙ drop-drop (length y) end bytes
-      ∙ ap (λ n. drop n bytes) (omega (arith, length-append x y)) in
+    sym (drop-drop (length y) end once) ∙ ap (drop (length y)) (drop-at front back end long) ∙ drop-drop (length y) end bytes
+    ∙ ap (λ n. drop n bytes) (omega (arith, length-append x y)) in
     ap (λ b. put-at b end y) group
     ∙ ap (λ l. l ++ (y ++ drop (end + length y) once)) (take-at front back end long)
     ∙ ap (λ l. front ++ (y ++ l)) rest
@@ -63,7 +63,7 @@ put-none bytes place = record {
 }
 
 pub put-one : (bytes after : List ℕ) (place value count : ℕ) → value < 65536 → count ≡ length (encoded value)
-  → (place + count ≤ length bytes → after ≡ put-at bytes place (encoded value)) → Put bytes place (value ∷ []) after (place + count)
+    → (place + count ≤ length bytes → after ≡ put-at bytes place (encoded value)) → Put bytes place (value ∷ []) after (place + count)
 put-one bytes after place value count small is stands =
     let alone : encoded value ++ [] ≡ encoded value = append-nil (encoded value) in
     record {
@@ -73,7 +73,7 @@ put-one bytes after place value count small is stands =
     }
 
 pub put-then : (before mid after : List ℕ) (start place end : ℕ) (ns ms : List ℕ)
-  → Put before start ns mid place → length mid ≡ length before → Put mid place ms after end → Put before start (ns ++ ms) after end
+    → Put before start ns mid place → length mid ≡ length before → Put mid place ms after end → Put before start (ns ++ ms) after end
 put-then before mid after start place end ns ms first same second =
     let both = spelled-append ns ms in
     let total : length (spelled (ns ++ ms)) ≡ length (spelled ns) + length (spelled ms) = ap length both ∙ length-append (spelled ns) (spelled ms) in
@@ -81,24 +81,24 @@ put-then before mid after start place end ns ms first same second =
       small = all-append (λ n. n < 65536) ns ms (first .small) (second .small);
       ends = omega (arith, total, first .ends, second .ends);
       stands = λ h.
-        let inside : start + length (spelled ns) ≤ length before = omega (arith, first .ends, second .ends) in
-        second .stands (omega arith)
-        ∙ ap (λ b. put-at b place (spelled ms)) (first .stands (omega (arith, second .ends)))
-        ∙ ap (λ p. put-at (put-at before start (spelled ns)) p (spelled ms)) (first .ends)
-        ∙ put-put before (spelled ns) (spelled ms) start inside
-        ∙ ap (put-at before start) (sym both);
+          let inside : start + length (spelled ns) ≤ length before = omega (arith, first .ends, second .ends) in
+          second .stands (omega arith)
+          ∙ ap (λ b. put-at b place (spelled ms)) (first .stands (omega (arith, second .ends)))
+          ∙ ap (λ p. put-at (put-at before start (spelled ns)) p (spelled ms)) (first .ends)
+          ∙ put-put before (spelled ns) (spelled ms) start inside
+          ∙ ap (put-at before start) (sym both);
     }
 
 -- a turn of a loop: the numbers of the next turn stand behind those of the turns before
 pub put-joined : (before mid after : List ℕ) (start place end k : ℕ) (lists : ℕ → List ℕ)
-  → Put before start (joined-below k lists) mid place → length mid ≡ length before → Put mid place (lists k) after end
-  → Put before start (joined-below (k + 1) lists) after end
+    → Put before start (joined-below k lists) mid place → length mid ≡ length before → Put mid place (lists k) after end
+    → Put before start (joined-below (k + 1) lists) after end
 put-joined before mid after start place end k lists first same second =
     rw add-one (put-then before mid after start place end (joined-below k lists) (lists k) first same second)
 
 pub put-listed : (before mid after : List ℕ) (start place end k value : ℕ) (gives : ℕ → ℕ)
-  → Put before start (listed-below k gives) mid place → length mid ≡ length before → value ≡ gives k → Put mid place (value ∷ []) after end
-  → Put before start (listed-below (k + 1) gives) after end
+    → Put before start (listed-below k gives) mid place → length mid ≡ length before → value ≡ gives k → Put mid place (value ∷ []) after end
+    → Put before start (listed-below (k + 1) gives) after end
 put-listed before mid after start place end k value gives first same is second =
     put-joined before mid after start place end k (λ j. gives j ∷ []) first same (subst (λ v. Put mid place (v ∷ []) after end) is second)
 
@@ -111,7 +111,7 @@ spells-spelled (n ∷ ns) rest small =
 
 -- numbers put in front of the bytes, with all the room that they want
 pub put-in-place : (before after ns : List ℕ) (end : ℕ) → Put before 0 ns after end → length (spelled ns) ≤ length before
-  → after ≡ spelled ns ++ drop (length (spelled ns)) before
+    → after ≡ spelled ns ++ drop (length (spelled ns)) before
 put-in-place before after ns end put room =
     let count : 0 + length (spelled ns) ≡ length (spelled ns) = omega arith in
     put .stands (omega (arith, put .ends)) ∙ ap (λ k. spelled ns ++ drop k before) count

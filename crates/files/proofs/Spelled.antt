@@ -93,14 +93,13 @@ spells-rows-of bytes w start q (suc p) gives read same =
 
 -- a number at the front of the bytes from a place on, by its place
 pub from-read : (bytes : List ℕ) (place w n : ℕ) (rest : List ℕ) → number (drop place bytes) ≡ Ok (n, rest)
-  → (unread bytes place w ≡ None) × (value-at bytes place ≡ n) × (after bytes place ≡ length bytes - length rest) × (rest ≡ drop (after bytes place) bytes)
+    → (unread bytes place w ≡ None) × (value-at bytes place ≡ n) × (after bytes place ≡ length bytes - length rest) × (rest ≡ drop (after bytes place) bytes)
 unfolding value-at after
 from-read bytes place w n rest h =
     let found = number-found n (drop place bytes) rest h in
-    let end = from-place bytes rest (place + found .taken) (found .left ∙ drop-drop (found .taken) place bytes) in
-    (
+    let end = from-place bytes rest (place + found .taken) (found .left ∙ drop-drop (found .taken) place bytes) in (
       ap (λ r. unread-by place w (placed bytes r)) h,
       ap (λ r. valueOr (placed bytes r) (0, place) .0) h,
       ap (λ r. valueOr (placed bytes r) (0, place) .1) h,
-      end ∙ ap (λ k. drop k bytes) (sym (ap (λ r. valueOr (placed bytes r) (0, place) .1) h))
+      end ∙ ap (λ k. drop k bytes) (sym (ap (λ r. valueOr (placed bytes r) (0, place) .1) h)),
     )

@@ -105,7 +105,7 @@ row-fault-from bytes n c w start ok =
     (none-from controller (or-else environment next) (refused-from bytes (controller-place bytes c start) w moves-allowed (ok .controller))
     (none-from environment next (refused-from bytes (environment-place bytes c start) w moves-allowed (ok .environment))
     (first-below-none-from (next-numbers bytes c start) (λ j. refused bytes (skip bytes j (next-place bytes c start)) w (next-allowed n))
-      (λ j l. refused-from bytes (skip bytes j (next-place bytes c start)) w (next-allowed n) (ok .next j l)))))
+    (λ j l. refused-from bytes (skip bytes j (next-place bytes c start)) w (next-allowed n) (ok .next j l)))))
 
 pub file-fault-from : (bytes : List ℕ) (place room : ℕ) → FileTested bytes place room → file-fault bytes place room ≡ None
 file-fault-from bytes place room ok =
@@ -127,7 +127,7 @@ pub record Granted (bytes : List ℕ) (place long at : ℕ) (file : TestedFile) 
   pub words-are : file .words ≡ words-taken (file .sizes .states) (file .sizes .channels)
 
 pub granted : (bytes : List ℕ) (place long at : ℕ) (file : TestedFile)
-  → file-fault bytes place (long - at) ≡ None → file ≡ file-parts bytes place → Granted bytes place long at file
+    → file-fault bytes place (long - at) ≡ None → file ≡ file-parts bytes place → Granted bytes place long at file
 granted bytes place long at file none is =
     let tested = file-tested bytes place (long - at) none in
     let words : file .words ≡ file-words bytes place = ap (λ f. f .words) is in

@@ -45,7 +45,7 @@ pub record Listed (bytes : List ℕ) (start w k : ℕ) (gives : ℕ → ℕ) (re
   pub behind : Here bytes (skip bytes k start) rest
 
 pub unspell-listed : (bytes : List ℕ) (start w k : ℕ) (gives : ℕ → ℕ) (from rest : List ℕ)
-  → Here bytes start from → Spells (listed-below k gives) from rest → Listed bytes start w k gives rest
+    → Here bytes start from → Spells (listed-below k gives) from rest → Listed bytes start w k gives rest
 unspell-listed bytes start w zero gives from rest here h = record {
   read = λ j l. absurd (omega arith);
   value = λ j l. absurd (omega arith);
@@ -57,13 +57,13 @@ unspell-listed bytes start w (suc k) gives from rest here h =
     let last = unspell-one bytes (skip bytes k start) w (gives k) (s .0) (s .2 .0) (before .behind) (s .2 .1) in
     record {
       read = λ j l. elim (cases-lt j k) [
-          inl less ↦ before .read j less
+        | inl less ↦ before .read j less
         | inr more ↦ let same : k ≡ j = omega arith in subst (λ i. unread bytes (skip bytes i start) w ≡ None) same (last .read)
-        ];
+      ];
       value = λ j l. elim (cases-lt j k) [
-          inl less ↦ before .value j less
+        | inl less ↦ before .value j less
         | inr more ↦ let same : k ≡ j = omega arith in subst (λ i. nth bytes i start ≡ gives i) same (last .value)
-        ];
+      ];
       behind = subst (Here bytes (skip bytes (suc k) start)) (s .2 .2) (last .behind);
     }
 
@@ -74,7 +74,7 @@ pub record RowsOf (bytes : List ℕ) (start w q p : ℕ) (gives : ℕ → ℕ �
   pub behind : Here bytes (skip bytes (p * q) start) rest
 
 pub unspell-rows-of : (bytes : List ℕ) (start w q p : ℕ) (gives : ℕ → ℕ → ℕ) (from rest : List ℕ)
-  → Here bytes start from → Spells (joined-below p λ a. listed-below q (gives a)) from rest → RowsOf bytes start w q p gives rest
+    → Here bytes start from → Spells (joined-below p λ a. listed-below q (gives a)) from rest → RowsOf bytes start w q p gives rest
 unspell-rows-of bytes start w q zero gives from rest here h = record {
   read = λ a b l. absurd (omega arith);
   value = λ a b l. absurd (omega arith);
@@ -88,16 +88,16 @@ unspell-rows-of bytes start w q (suc p) gives from rest here h =
     let at : (b : ℕ) → skip bytes b mid ≡ skip bytes (p * q + b) start = λ b. sym (skip-skip bytes (p * q) b start) in
     record {
       read = λ a b l m. elim (cases-lt a p) [
-          inl less ↦ before .read a b less m
+        | inl less ↦ before .read a b less m
         | inr more ↦
             let same : p ≡ a = omega arith in
             subst (λ i. unread bytes (skip bytes (i * q + b) start) w ≡ None) same (subst (λ place. unread bytes place w ≡ None) (at b) (last .read b m))
-        ];
+      ];
       value = λ a b l m. elim (cases-lt a p) [
-          inl less ↦ before .value a b less m
+        | inl less ↦ before .value a b less m
         | inr more ↦
             let same : p ≡ a = omega arith in
             subst (λ i. nth bytes (i * q + b) start ≡ gives i b) same (ap (value-at bytes) (sym (at b)) ∙ last .value b m)
-        ];
+      ];
       behind = subst (λ place. Here bytes place rest) (at q ∙ ap (λ k. skip bytes k start) (sym (suc-mul p q))) (last .behind);
     }

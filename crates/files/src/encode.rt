@@ -39,8 +39,30 @@ fn put_readings<S: System>(system: &S, state: u16, bytes: &mut [u8], start: usiz
     place
 }
 
+/// Puts the next state of a pair of moves.
+fn put_next_state<S: System>(
+    system: &S,
+    state: u16,
+    controller: u16,
+    environment: u16,
+    bytes: &mut [u8],
+    place: usize,
+) -> usize
+    requires { ⌜ place ≤ 1000000 ⌝ }
+    ensures put { λ r. ⌜ Put (now (bytes .entry)) place (S·System .meaning (now (system .entry)) .next state controller environment ∷ []) (now (bytes .exit)) r ⌝ }
+    ensures bound { λ r. ⌜ r ≤ place + 3 ⌝ }
+{
+    put_number(system.next(state, controller, environment), bytes, place)
+}
+
 /// Puts the next states of a controller move at a state.
-fn put_move<S: System>(system: &S, state: u16, controller: u16, bytes: &mut [u8], start: usize) -> usize
+fn put_move<S: System>(
+    system: &S,
+    state: u16,
+    controller: u16,
+    bytes: &mut [u8],
+    start: usize,
+) -> usize
     requires { ⌜ start ≤ 900000 ⌝ ∗ ⌜ S·System .meaning (now system) .environment-moves state ≤ 16 ⌝ }
     ensures put { λ r. ⌜ Put (now (bytes .entry)) start (move-flattened (S·System .meaning (now (system .entry))) state controller) (now (bytes .exit)) r ⌝ }
     ensures bound { λ r. ⌜ r ≤ start + 48 ⌝ }
@@ -48,7 +70,7 @@ fn put_move<S: System>(system: &S, state: u16, controller: u16, bytes: &mut [u8]
     let moves = system.environment_moves(state);
     let mut place = start;
     for environment in 0..moves {
-        place = put_number(system.next(state, controller, environment), bytes, place);
+        place = put_next_state(system, state, controller, environment, bytes, place);
     }
     place
 }

@@ -24,4 +24,6 @@ pub use system_write::SystemWriteFaultPartialEq;
 pub use system_write::write_system;
 
 #[cfg(test)]
-mod tests;
+mod read_tests;
+#[cfg(test)]
+mod write_tests;

@@ -1,2 +1,3 @@
 pub mod Bounded
 pub mod LaidOut
+pub mod Translated

@@ -2,3 +2,9 @@ pub mod Bounded
 pub mod Meaning
 pub mod Layout
 pub mod Laws
+pub mod Buffer
+pub mod BufferLaws
+pub mod Joint
+pub mod JointLaws
+pub mod CodeList
+pub mod CodeListLaws

@@ -1,7 +1,9 @@
 -- What a system is.
+use mathlib.Core.Bool.{Bool, _&&_}
 use mathlib.Core.Path.{_≡_}
 use Prim.Native.Nat.{ℕ, _<_, _≤_}
 use lib.IntN.{ℤ, pos}
+use lib.Signed.{leZ}
 
 -- what a channel shows at a state
 abbrev pub Reading : Type 0
@@ -10,6 +12,10 @@ Reading = ℤ
 -- the reading that answers a question with an argument out of range
 abbrev pub no-question : Reading
 no-question = pos 0
+
+-- whether two readings are equal: neither is above the other
+abbrev pub same-reading : Reading → Reading → Bool
+same-reading x y = leZ x y && leZ y x
 
 -- A finite system: its states and channels are numbered from 0, and it starts in state 0.
 -- At each state the controller and the environment choose a move each, without seeing the other's, and both moves together give the next state.

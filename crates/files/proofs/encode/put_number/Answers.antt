@@ -17,11 +17,11 @@ returns c =
     let value = c .args .value in
     record {
       put = put-one bytes (c .if-place-bytes .bytes) place value (c .encoded-len .result) (omega (arith, c .fits .value)) (c .encoded-len .ensures .value)
-        (λ h. elim (c .if-place-bytes .came) [
-          then-place-bytes w ↦
-            let fits : place + length (encoded value) ≤ length bytes = omega (arith, c .encoded-len .ensures .value) in
-            w .bytes-is ∙ ap (putMid place (length bytes - place) bytes) (w .write-number .ensures .bytes) ∙ written-at bytes (encoded value) place fits
-        | else-place-bytes w ↦ absurd (omega arith)
-        ]);
+          (λ h. elim (c .if-place-bytes .came) [
+            | then-place-bytes w ↦
+                let fits : place + length (encoded value) ≤ length bytes = omega (arith, c .encoded-len .ensures .value) in
+                w .bytes-is ∙ ap (putMid place (length bytes - place) bytes) (w .write-number .ensures .bytes) ∙ written-at bytes (encoded value) place fits
+            | else-place-bytes w ↦ absurd (omega arith)
+          ]);
       bound = search needs;
     }

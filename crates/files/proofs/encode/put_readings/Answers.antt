@@ -15,10 +15,9 @@ pub loop-channel-again : need.loop-channel-again
 loop-channel-again g c =
     let m = g .S·System .meaning (c .args .system .now) in
     let fits : SFits w16 (c .reading .result) = search needs in
-    let filed-is = c .file-reading .ensures .answer ∙ ap filed (toZ-ofZ w16 (c .reading .result) fits ∙ c .reading .ensures) in
-    (
+    let filed-is = c .file-reading .ensures .answer ∙ ap filed (toZ-ofZ w16 (c .reading .result) fits ∙ c .reading .ensures) in (
       put-listed (c .args .bytes .now) (c .loop-channel .bytes) (c .put-number-place .last .bytes) (c .args .start) (c .loop-channel .place) (c .put-number-place .result)
-        (c .loop-channel .channel) (c .file-reading .result) (λ k. filed (m .reading (c .args .state) k))
-        (c .loop-channel .inv .0) (c .loop-channel .kept .bytes) filed-is (c .put-number-place .ensures .put),
-      omega (arith, c .put-number-place .ensures .bound)
+          (c .loop-channel .channel) (c .file-reading .result) (λ k. filed (m .reading (c .args .state) k))
+          (c .loop-channel .inv .0) (c .loop-channel .kept .bytes) filed-is (c .put-number-place .ensures .put),
+      omega (arith, c .put-number-place .ensures .bound),
     )

@@ -19,11 +19,11 @@ returns g c =
     let q = subst (λ v. Put (second .last .bytes) (second .result) (v ∷ []) (third .last .bytes) (third .result)) (c .environment-moves .ensures) (third .ensures .put) in
     record {
       put =
-        put-then (c .args .bytes .now) (first .last .bytes) (last .last .bytes) (c .args .start) (first .result) (last .result)
+          put-then (c .args .bytes .now) (first .last .bytes) (last .last .bytes) (c .args .start) (first .result) (last .result)
           (readings-flattened m w) (m .controller-moves w ∷ m .environment-moves w ∷ next-flattened m w) (first .ensures .put) (first .kept .bytes)
-        (put-then (first .last .bytes) (second .last .bytes) (last .last .bytes) (first .result) (second .result) (last .result)
+          (put-then (first .last .bytes) (second .last .bytes) (last .last .bytes) (first .result) (second .result) (last .result)
           (m .controller-moves w ∷ []) (m .environment-moves w ∷ next-flattened m w) p (second .kept .bytes)
-        (put-then (second .last .bytes) (third .last .bytes) (last .last .bytes) (second .result) (third .result) (last .result)
+          (put-then (second .last .bytes) (third .last .bytes) (last .last .bytes) (second .result) (third .result) (last .result)
           (m .environment-moves w ∷ []) (next-flattened m w) q (third .kept .bytes) (last .ensures .put)));
       bound = search needs;
     }

@@ -15,10 +15,9 @@ pub loop-state-holds : need.loop-state-holds
 loop-state-holds g c = (put-none (c .args .bytes .now) (c .args .start), omega arith)
 
 pub loop-state-again : need.loop-state-again
-loop-state-again g c =
-    (
-      put-joined (c .args .bytes .now) (c .loop-state .bytes) (c .put-row-place .last .bytes) (c .args .start) (c .loop-state .place) (c .put-row-place .result)
-        (c .loop-state .state) (row-flattened (g .S·System .meaning (c .args .system .now)))
-        (c .loop-state .inv .0) (c .loop-state .kept .bytes) (c .put-row-place .ensures .put),
-      omega (arith, c .put-row-place .ensures .bound)
-    )
+loop-state-again g c = (
+  put-joined (c .args .bytes .now) (c .loop-state .bytes) (c .put-row-place .last .bytes) (c .args .start) (c .loop-state .place) (c .put-row-place .result)
+      (c .loop-state .state) (row-flattened (g .S·System .meaning (c .args .system .now)))
+      (c .loop-state .inv .0) (c .loop-state .kept .bytes) (c .put-row-place .ensures .put),
+  omega (arith, c .put-row-place .ensures .bound),
+)

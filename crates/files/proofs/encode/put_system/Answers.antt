@@ -15,6 +15,6 @@ returns g c =
     let k = subst (λ v. Put (first .last .bytes) (first .result) (v ∷ []) (second .last .bytes) (second .result)) (c .from .ensures ∙ c .channels .ensures) (second .ensures .put) in
     let rows = subst (λ v. Put (second .last .bytes) (second .result) (rows-flattened m v) (last .last .bytes) (last .result)) (c .states-states .ensures) (last .ensures) in
     put-then (c .args .bytes .now) (first .last .bytes) (last .last .bytes) 0 (first .result) (last .result)
-      (m .states ∷ []) (m .channels ∷ rows-flattened m (m .states)) n (first .kept .bytes)
+    (m .states ∷ []) (m .channels ∷ rows-flattened m (m .states)) n (first .kept .bytes)
     (put-then (first .last .bytes) (second .last .bytes) (last .last .bytes) (first .result) (second .result) (last .result)
-      (m .channels ∷ []) (rows-flattened m (m .states)) k (second .kept .bytes) rows)
+    (m .channels ∷ []) (rows-flattened m (m .states)) k (second .kept .bytes) rows)
