@@ -3,7 +3,7 @@ ghost use mathlib.Core.Path.{_≡_};
 ghost use mathlib.Core.List.{_++_};
 ghost use Rattle.std.specs.Of.String.{string-bytes};
 ghost use Rattle.std.specs.Vec.{made};
-ghost use Rattle.description.specs.Text.{system-text, state-text, readings-line, moves-text};
+ghost use Rattle.description.specs.Text.{system-text, state-text, reading-text, readings-line, move-line, moves-text};
 use std::alloc::AllocError;
 use std::alloc::Global;
 use std::fmt;
@@ -48,6 +48,14 @@ fn write_state<S: System>(text: &mut String, system: &S, state: u16) -> fmt::Res
     write_moves(text, system, state)
 }
 
+/// Adds what a channel shows at the state to the text.
+fn write_reading<S: System>(text: &mut String, system: &S, state: u16, channel: u8) -> fmt::Result
+    ensures { λ r. ⌜ made r (λ _. string-bytes (now (text .exit)) ≡ string-bytes (now (text .entry)) ++ reading-text (S·System .meaning (now (system .entry))) state channel) ⌝ }
+{
+    let reading = system.reading(state, channel);
+    write!(text, " {reading}")
+}
+
 /// Adds the line of the state's readings to the text.
 fn write_readings<S: System>(text: &mut String, system: &S, state: u16) -> fmt::Result
     ensures { λ r. ⌜ made r (λ _. string-bytes (now (text .exit)) ≡ string-bytes (now (text .entry)) ++ readings-line (S·System .meaning (now (system .entry))) state) ⌝ }
@@ -55,10 +63,26 @@ fn write_readings<S: System>(text: &mut String, system: &S, state: u16) -> fmt::
     let channels = system.channels();
     write!(text, "  readings")?;
     for channel in 0..channels {
-        let reading = system.reading(state, channel);
-        write!(text, " {reading}")?;
+        write_reading(text, system, state, channel)?;
     }
     writeln!(text)
+}
+
+/// Adds the line of a pair of moves to the text.
+fn write_move<S: System>(
+    text: &mut String,
+    system: &S,
+    state: u16,
+    controller: u16,
+    environment: u16,
+) -> fmt::Result
+    ensures { λ r. ⌜ made r (λ _. string-bytes (now (text .exit)) ≡ string-bytes (now (text .entry)) ++ move-line (S·System .meaning (now (system .entry))) state controller environment) ⌝ }
+{
+    let next = system.next(state, controller, environment);
+    writeln!(
+        text,
+        "  move {controller} against {environment} leads to {next}"
+    )
 }
 
 /// Adds a line for each pair of moves at the state to the text.
@@ -69,11 +93,7 @@ fn write_moves<S: System>(text: &mut String, system: &S, state: u16) -> fmt::Res
     let environment_moves = system.environment_moves(state);
     for controller in 0..controller_moves {
         for environment in 0..environment_moves {
-            let next = system.next(state, controller, environment);
-            writeln!(
-                text,
-                "  move {controller} against {environment} leads to {next}"
-            )?;
+            write_move(text, system, state, controller, environment)?;
         }
     }
     Ok(())

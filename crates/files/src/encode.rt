@@ -1,7 +1,9 @@
 //! The numbers of a system, put into bytes one behind the other.
+//!
+//! A number takes at most 3 bytes, so a place that is far enough from the largest one stays a place.
 ghost use mathlib.Core.List.{[], _∷_};
 ghost use mathlib.Core.Path.{_≡_};
-ghost use Prim.Native.Nat.{_+_, _≤_};
+ghost use Prim.Native.Nat.{_+_, _*_, _^_, _<_, _≤_};
 ghost use lib.ListN.{length};
 ghost use Rattle.codec.specs.Number.{encoded};
 ghost use Rattle.files.specs.Flattening.{readings-flattened, move-flattened, next-flattened, row-flattened, rows-flattened, flattened};
@@ -15,7 +17,7 @@ use systems::System;
 ///
 /// So over no bytes at all this only measures.
 fn put_number(value: u16, bytes: &mut [u8], place: usize) -> usize
-    requires { ⌜ place ≤ 1000000 ⌝ }
+    requires { ⌜ place + 3 < 2 ^ 64 ⌝ }
     ensures put { λ r. ⌜ Put (now (bytes .entry)) place (value ∷ []) (now (bytes .exit)) r ⌝ }
     ensures bound { λ r. ⌜ r ≤ place + 3 ⌝ }
 {
@@ -27,9 +29,9 @@ fn put_number(value: u16, bytes: &mut [u8], place: usize) -> usize
 
 /// Puts the readings at a state.
 fn put_readings<S: System>(system: &S, state: u16, bytes: &mut [u8], start: usize) -> usize
-    requires { ⌜ start ≤ 900000 ⌝ ∗ ⌜ S·System .meaning (now system) .channels ≤ 8 ⌝ }
+    requires { ⌜ start + 3 * 8 < 2 ^ 64 ⌝ ∗ ⌜ S·System .meaning (now system) .channels ≤ 8 ⌝ }
     ensures put { λ r. ⌜ Put (now (bytes .entry)) start (readings-flattened (S·System .meaning (now (system .entry))) state) (now (bytes .exit)) r ⌝ }
-    ensures bound { λ r. ⌜ r ≤ start + 24 ⌝ }
+    ensures bound { λ r. ⌜ r ≤ start + 3 * 8 ⌝ }
 {
     let channels = system.channels();
     let mut place = start;
@@ -48,7 +50,7 @@ fn put_next_state<S: System>(
     bytes: &mut [u8],
     place: usize,
 ) -> usize
-    requires { ⌜ place ≤ 1000000 ⌝ }
+    requires { ⌜ place + 3 < 2 ^ 64 ⌝ }
     ensures put { λ r. ⌜ Put (now (bytes .entry)) place (S·System .meaning (now (system .entry)) .next state controller environment ∷ []) (now (bytes .exit)) r ⌝ }
     ensures bound { λ r. ⌜ r ≤ place + 3 ⌝ }
 {
@@ -63,9 +65,9 @@ fn put_move<S: System>(
     bytes: &mut [u8],
     start: usize,
 ) -> usize
-    requires { ⌜ start ≤ 900000 ⌝ ∗ ⌜ S·System .meaning (now system) .environment-moves state ≤ 16 ⌝ }
+    requires { ⌜ start + 3 * 16 < 2 ^ 64 ⌝ ∗ ⌜ S·System .meaning (now system) .environment-moves state ≤ 16 ⌝ }
     ensures put { λ r. ⌜ Put (now (bytes .entry)) start (move-flattened (S·System .meaning (now (system .entry))) state controller) (now (bytes .exit)) r ⌝ }
-    ensures bound { λ r. ⌜ r ≤ start + 48 ⌝ }
+    ensures bound { λ r. ⌜ r ≤ start + 3 * 16 ⌝ }
 {
     let moves = system.environment_moves(state);
     let mut place = start;
@@ -77,9 +79,9 @@ fn put_move<S: System>(
 
 /// Puts all next states at a state.
 fn put_next_states<S: System>(system: &S, state: u16, bytes: &mut [u8], start: usize) -> usize
-    requires { ⌜ start ≤ 800000 ⌝ ∗ ⌜ S·System .meaning (now system) .controller-moves state ≤ 16 ⌝ ∗ ⌜ S·System .meaning (now system) .environment-moves state ≤ 16 ⌝ }
+    requires { ⌜ start + 3 * 256 < 2 ^ 64 ⌝ ∗ ⌜ S·System .meaning (now system) .controller-moves state ≤ 16 ⌝ ∗ ⌜ S·System .meaning (now system) .environment-moves state ≤ 16 ⌝ }
     ensures put { λ r. ⌜ Put (now (bytes .entry)) start (next-flattened (S·System .meaning (now (system .entry))) state) (now (bytes .exit)) r ⌝ }
-    ensures bound { λ r. ⌜ r ≤ start + 768 ⌝ }
+    ensures bound { λ r. ⌜ r ≤ start + 3 * 256 ⌝ }
 {
     let moves = system.controller_moves(state);
     let mut place = start;
@@ -91,9 +93,9 @@ fn put_next_states<S: System>(system: &S, state: u16, bytes: &mut [u8], start: u
 
 /// Puts the row of a state.
 fn put_row<S: System>(system: &S, state: u16, bytes: &mut [u8], start: usize) -> usize
-    requires { ⌜ start ≤ 700000 ⌝ ∗ ⌜ S·System .meaning (now system) .channels ≤ 8 ⌝ ∗ ⌜ S·System .meaning (now system) .controller-moves state ≤ 16 ⌝ ∗ ⌜ S·System .meaning (now system) .environment-moves state ≤ 16 ⌝ }
+    requires { ⌜ start + 3 * 266 < 2 ^ 64 ⌝ ∗ ⌜ S·System .meaning (now system) .channels ≤ 8 ⌝ ∗ ⌜ S·System .meaning (now system) .controller-moves state ≤ 16 ⌝ ∗ ⌜ S·System .meaning (now system) .environment-moves state ≤ 16 ⌝ }
     ensures put { λ r. ⌜ Put (now (bytes .entry)) start (row-flattened (S·System .meaning (now (system .entry))) state) (now (bytes .exit)) r ⌝ }
-    ensures bound { λ r. ⌜ r ≤ start + 798 ⌝ }
+    ensures bound { λ r. ⌜ r ≤ start + 3 * 266 ⌝ }
 {
     let place = put_readings(system, state, bytes, start);
     let place = put_number(system.controller_moves(state), bytes, place);
@@ -114,7 +116,7 @@ pub(crate) fn put_system<S: System>(system: &S, bytes: &mut [u8]) -> usize
 
 /// Puts the rows of so many states.
 fn put_rows<S: System>(system: &S, states: u16, bytes: &mut [u8], start: usize) -> usize
-    requires { ⌜ start ≤ 6 ⌝ ∗ ⌜ Few (S·System .meaning (now system)) ⌝ ∗ ⌜ states ≡ S·System .meaning (now system) .states ⌝ }
+    requires { ⌜ start ≤ 3 * 2 ⌝ ∗ ⌜ Few (S·System .meaning (now system)) ⌝ ∗ ⌜ states ≡ S·System .meaning (now system) .states ⌝ }
     ensures { λ r. ⌜ Put (now (bytes .entry)) start (rows-flattened (S·System .meaning (now (system .entry))) states) (now (bytes .exit)) r ⌝ }
 {
     let mut place = start;

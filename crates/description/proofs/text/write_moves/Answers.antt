@@ -9,16 +9,15 @@ use Rattle.description.proofs.text.write_moves.Needs as need
 
 pub loop-environment-again : need.loop-environment-again
 loop-environment-again g c =
-    let b = c .loop-environment .environment-counter in
-    let line = move-line (g .S·System .meaning (c .args .system .now)) (c .args .state) (c .loop-controller .controller-counter) in
-    let here : string-bytes (c .writeln .last .self) ≡ string-bytes (c .loop-environment .text) ++ line b = search needs in
-    joined-more _ b line (c .loop-environment .inv) here
+    let b = c .loop-environment .environment in
+    let line = move-line (g .S·System .meaning (c .args .system .now)) (c .args .state) (c .loop-controller .controller) in
+    joined-more _ b line (c .loop-environment .inv) (c .in-Continue-write-move .ensures tt)
 
 pub loop-controller-again : need.loop-controller-again
 loop-controller-again g c =
     let m = g .S·System .meaning (c .args .system .now) in
     let w = c .args .state in
-    let a = c .loop-controller .controller-counter in
-    let all : c .loop-environment .environment-counter ≡ m .environment-moves w = omega (arith, c .environment-moves-environment-moves .ensures) in
+    let a = c .loop-controller .controller in
+    let all : c .loop-environment .environment ≡ m .environment-moves w = omega (arith, c .environment-moves-environment-moves .ensures) in
     let here : string-bytes (c .loop-environment .text) ≡ string-bytes (c .loop-controller .text) ++ move-lines m w a = search needs in
     joined-more _ a (move-lines m w) (c .loop-controller .inv) here

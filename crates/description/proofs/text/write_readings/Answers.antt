@@ -11,8 +11,7 @@ pub loop-channel-again : need.loop-channel-again
 loop-channel-again g c =
     let reading = reading-text (g .S·System .meaning (c .args .system .now)) (c .args .state) in
     let k = c .loop-channel .channel in
-    let here : string-bytes (c .write-in-loop-channel .last .self) ≡ string-bytes (c .loop-channel .text) ++ reading k = search needs in
-    joined-more _ k reading (c .loop-channel .inv) here
+    joined-more _ k reading (c .loop-channel .inv) (c .in-Continue-write-reading .ensures tt)
 
 pub returns : need.returns
 returns g c =

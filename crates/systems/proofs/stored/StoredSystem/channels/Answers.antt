@@ -1,7 +1,6 @@
 use borrow.Author.Needs.{needs}
 use native.Mathlib.Omega.{arith}
 use Rattle.systems.proofs.stored.StoredSystem.channels.Needs as need
-use Rattle.systems.specs.Layout.{stored}
 use Rattle.systems.specs.Laws.{laid-out}
 
 pub index-self-1 : need.index-self-1

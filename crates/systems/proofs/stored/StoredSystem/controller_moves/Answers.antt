@@ -1,7 +1,7 @@
 use borrow.Author.Needs.{needs}
 use Rattle.systems.proofs.LaidOut.{row-held}
 use Rattle.systems.proofs.stored.StoredSystem.controller_moves.Needs as need
-use Rattle.systems.specs.Layout.{state-count, stored}
+use Rattle.systems.specs.Layout.{state-count}
 use Rattle.systems.specs.Laws.{laid-out}
 
 pub controller-word-requires : need.controller-word-requires

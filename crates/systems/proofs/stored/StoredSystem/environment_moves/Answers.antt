@@ -1,7 +1,7 @@
 use borrow.Author.Needs.{needs}
 use Rattle.systems.proofs.LaidOut.{row-held}
 use Rattle.systems.proofs.stored.StoredSystem.environment_moves.Needs as need
-use Rattle.systems.specs.Layout.{state-count, stored}
+use Rattle.systems.specs.Layout.{state-count}
 use Rattle.systems.specs.Laws.{laid-out}
 
 pub environment-word-requires : need.environment-word-requires

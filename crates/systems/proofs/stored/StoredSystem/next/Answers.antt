@@ -2,7 +2,7 @@ use borrow.Author.Needs.{needs}
 use Prim.Native.Nat.{_<_}
 use Rattle.systems.proofs.LaidOut.{row-held}
 use Rattle.systems.proofs.stored.StoredSystem.next.Needs as need
-use Rattle.systems.specs.Layout.{state-count, stored}
+use Rattle.systems.specs.Layout.{state-count}
 use Rattle.systems.specs.Laws.{laid-out}
 
 pub next-word-requires : need.next-word-requires

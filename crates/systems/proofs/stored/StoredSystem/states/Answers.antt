@@ -1,7 +1,5 @@
-use borrow.Author.Needs.{needs}
 use native.Mathlib.Omega.{arith}
 use Rattle.systems.proofs.stored.StoredSystem.states.Needs as need
-use Rattle.systems.specs.Layout.{stored}
 use Rattle.systems.specs.Laws.{laid-out}
 
 pub index-self-0 : need.index-self-0
