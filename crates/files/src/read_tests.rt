@@ -119,6 +119,11 @@ fn each_fault_has_its_place_and_state(rt: LibcRuntime) -> Result<(), Fail> {
         read(heap, &[2, 1, 10, 2, 1, 0, 2], 700)?,
         refused(Reason::NextState, 6, 0),
     )?;
+    let too_long = Reason::Number(NumberFault::TooLong);
+    check_eq(
+        read(heap, &[2, 1, 0x80, 0x80, 0x80], 700)?,
+        refused(too_long, 2, 0),
+    )?;
     let too_large = Reason::Number(NumberFault::TooLarge);
     check_eq(
         read(heap, &[2, 1, 10, 2, 1, 0, 1, 0x80, 0x80, 4], 700)?,

@@ -10,6 +10,7 @@ use Rattle.systems.specs.Meaning.{Meaning, no-question}
 abbrev pub stepped : ℕ → ℕ → ℕ → ℕ → ℕ
 stepped capacity w a b = cond (eqb a 1) (min (w + 1) capacity) (cond (eqb a 2 && eqb b 0) (w - 1) w)
 
+-- the buffer with room for so many records; an argument out of range is answered 0
 abbrev pub buffer : ℕ → Meaning
 buffer capacity = record {
   states = capacity + 1;

@@ -14,25 +14,29 @@ stepped-bound capacity w a b h =
     cond-both (eqb a 1) (min (w + 1) capacity) (cond (eqb a 2 && eqb b 0) (w - 1) w) (λ v. v ≤ capacity) (λ _. omega arith)
     (λ _. cond-both (eqb a 2 && eqb b 0) (w - 1) w (λ v. v ≤ capacity) (λ _. omega arith) (λ _. h))
 
--- moves that there are at a state, and 0 elsewhere
+-- a side has its moves at a state
 at-state : (capacity w x : ℕ) → w < capacity + 1 → cond (leb w capacity) x 0 ≡ x
 at-state capacity w x h = cond-true (leb w capacity) x 0 (le-leb w capacity (omega arith))
 
+-- and none elsewhere
 past-state : (capacity w x : ℕ) → capacity + 1 ≤ w → cond (leb w capacity) x 0 ≡ 0
 past-state capacity w x h = cond-false (leb w capacity) x 0 (lt-leb w capacity (omega arith))
 
+-- so many moves are few enough, at a state and elsewhere
 moves-bound : (capacity w x : ℕ) → x ≤ 65535 → cond (leb w capacity) x 0 ≤ 65535
 moves-bound capacity w x h = cond-both (leb w capacity) x 0 (λ v. v ≤ 65535) (λ _. h) (λ _. omega arith)
 
--- past the moves of a side there is no next state, at a state and elsewhere
+-- past the controller's moves there is no next state, at a state and elsewhere
 no-controller : (there : Bool) (p q a b x : ℕ) → cond there p 0 ≤ a → cond (there && (ltb a p && ltb b q)) x 0 ≡ 0
 no-controller true p q a b x h = cond-false (ltb a p && ltb b q) x 0 (and-left (ltb a p) (ltb b q) (le-ltb a p h))
 no-controller false p q a b x h = refl
 
+-- nor past the environment's
 no-environment : (there : Bool) (p q a b x : ℕ) → cond there q 0 ≤ b → cond (there && (ltb a p && ltb b q)) x 0 ≡ 0
 no-environment true p q a b x h = cond-false (ltb a p && ltb b q) x 0 (and-right (ltb a p) (ltb b q) (le-ltb b q h))
 no-environment false p q a b x h = refl
 
+-- the laws of systems hold of every buffer
 pub buffer-lawful : (capacity : ℕ) → capacity < 256 → Lawful (buffer capacity)
 buffer-lawful capacity ok = record {
   some-state = omega arith;

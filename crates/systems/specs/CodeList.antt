@@ -1,5 +1,5 @@
 -- A list of codes over a system, on one channel.
-use mathlib.Core.Bool.{Bool, cond, _&&_}
+use mathlib.Core.Bool.{cond, _&&_}
 use mathlib.Core.List.{List, [], _∷_, _++_}
 use Prim.Native.Nat.{ℕ}
 use lib.Dec.{ltb, eqb}
@@ -38,10 +38,10 @@ code-list m channel entries cut = record {
   next = m .next;
 }
 
--- what the answer is where one more entry is added: there are up to 8
+-- what adding one more entry answers: there are up to 8
 abbrev pub add-answer : List CodeEntry → Result (Unit {0}) CodeFault
 add-answer entries = cond (ltb (length entries) 8) (Ok tt) (Err Full)
 
--- the entries after that: it comes last, or nothing changes
+-- the entries after that: the new one comes last, or nothing changes
 abbrev pub added : List CodeEntry → CodeEntry → List CodeEntry
 added entries entry = cond (ltb (length entries) 8) (entries ++ entry ∷ []) entries

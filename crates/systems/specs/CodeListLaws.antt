@@ -8,6 +8,7 @@ use Rattle.systems.specs.CodeList.{code-list}
 use Rattle.systems.specs.Meaning.{Meaning, Lawful, Reading}
 use Rattle.systems.specs.declared.code_list.CodeEntry.{CodeEntry}
 
+-- the laws of systems hold of a list of codes where they hold of its system
 pub code-list-lawful : (m : Meaning) (channel : ℕ) (entries : List CodeEntry) (cut : Reading) → Lawful m → Lawful (code-list m channel entries cut)
 code-list-lawful m channel entries cut f = record {
   some-state = f .some-state;

@@ -8,15 +8,15 @@ use Rattle.systems.specs.Meaning.{Meaning, no-question}
 abbrev pub capped : ℕ → ℕ
 capped x = min x 65535
 
--- where both halves step to from u and v: each move is split by the second's number of moves at v
+-- where both halves step to from u and v, as u′ * n2 + v′: a move is split by the second's number of moves at v, as a state is by n2
 abbrev pub joint-step : Meaning → Meaning → ℕ → ℕ → ℕ → ℕ → ℕ
 joint-step x y u v a b =
     let p : ℕ = y .controller-moves v in
     let q : ℕ = y .environment-moves v in
     x .next u (a / p) (b / q) * y .states + y .next v (a % p) (b % q)
 
--- State s means u = s div n2 of the first and v = s mod n2 of the second. Moves are split by the second's number of moves at v in the same way.
--- The first's channels come first. Both halves step, to u′ * n2 + v′, which stops at the last state.
+-- State s means u = s div n2 of the first and v = s mod n2 of the second, and the first's channels come first.
+-- Counts of channels stop at 255, and the next state stops at the last state.
 abbrev pub joint : Meaning → Meaning → Meaning
 joint x y =
     let n : ℕ = capped (x .states * y .states) in

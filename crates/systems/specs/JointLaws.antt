@@ -1,6 +1,5 @@
 -- That two lawful systems side by side are lawful.
-use mathlib.Core.Bool.{Bool, cond, _&&_}
-use mathlib.Core.Path.{_≡_}
+use mathlib.Core.Bool.{Bool, cond}
 use Prim.Native.Nat.{ℕ, _-_, _*_, _/_, _%_, _<_, _≤_, min}
 use native.Mathlib.Nat.{div-lt-iff-lt-mul, mod-lt, mul-pos}
 use native.Mathlib.Omega.{arith}
@@ -23,6 +22,7 @@ some-count s n x y h i j =
 last-bound : (there : Bool) (x n : ℕ) → 1 ≤ n → cond there (min x (n - 1)) 0 < n
 last-bound there x n h = cond-both there (min x (n - 1)) 0 (λ v. v < n) (λ _. omega arith) (λ _. h)
 
+-- the laws of systems hold of a joint where they hold of its halves
 pub joint-lawful : (x y : Meaning) → Lawful x → Lawful y → Lawful (joint x y)
 joint-lawful x y f g =
     let n : ℕ = capped (x .states * y .states) in
