@@ -1,5 +1,5 @@
 -- Tables of strikes: what their entries say of the pairs.
-use Rattle.std.specs.Prelude.{ℕ, ◌+◌, ◌*◌, Bool, true, false, cond, not, ◌&&◌, ◌||◌, List, Some, None, Option, ◌==◌, nat_le, nat_lt, slice_index}
+use Rattle.std.specs.Prelude.{ℕ, ◌+◌, ◌*◌, Bool, cond, not, ◌&&◌, ◌||◌, List, Some, None, Option, ◌==◌, nat_le, nat_lt, slice_index}
 use Rattle.systems.specs.Bounded.{first_below}
 use Rattle.arena.specs.Arena.{Arena}
 use Rattle.arena.specs.Bounds.{count_below}

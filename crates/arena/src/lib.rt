@@ -1,4 +1,6 @@
 //! What the game of an exchange is played on, and which pairs of states are refuted there.
+#![tactic(auto)]
+
 mod arena;
 mod cause;
 mod exchange;

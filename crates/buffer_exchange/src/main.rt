@@ -1,4 +1,6 @@
 //! Decides the exchange of a buffer of capacity 1 for one of capacity 2, and the other way round.
+#![tactic(auto)]
+
 use anyhow::anyhow;
 use arena::Exchange;
 use docket::Docket;

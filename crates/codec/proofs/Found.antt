@@ -2,7 +2,6 @@
 use Rattle.std.proofs.Common.{◌≡◌, ℕ, suc, ◌+◌, ◌*◌, ◌%◌, ◌<◌, Bool, true, false, cond, ltb, ◌⊎◌, List, [], ◌∷◌, drop, Ok, Err, Result, sym, refl, ap, inl, inr, arith}
 use Rattle.std.proofs.lemmas.Bool.{ltb-true}
 use Rattle.codec.specs.Number.{third_byte, second_byte, number}
-use Rattle.codec.specs.declared.number.NumberFault.{NumberFault}
 use Rattle.codec.specs.declared.number.NumberFault.TheVariants.{TooLong, TooLarge}
 
 -- an answer that passes a test, and one of two

@@ -1,5 +1,5 @@
 -- Numbers in groups of seven bits, the least group first; the high bit is set on every byte but the last.
-use Rattle.std.specs.Prelude.{◌≡◌, ℕ, ◌+◌, ◌*◌, ◌/◌, ◌%◌, ◌<◌, ◌≤◌, Bool, cond, List, [], ◌∷◌, ◌++◌, length, drop, Ok, Err, Result, nat_le, nat_lt}
+use Rattle.std.specs.Prelude.{◌≡◌, ℕ, ◌+◌, ◌*◌, ◌/◌, ◌%◌, ◌≤◌, Bool, cond, List, [], ◌∷◌, ◌++◌, length, drop, Ok, Err, Result, nat_le, nat_lt}
 use Rattle.std.specs.Borrow.{Bor}
 use Rattle.codec.specs.declared.number.NumberFault.{NumberFault}
 use Rattle.codec.specs.declared.number.NumberFault.TheVariants.{Ends, TooLong, TooLarge}

@@ -1,4 +1,6 @@
 //! Numbers and readings as they stand in files.
+#![tactic(auto)]
+
 mod number;
 mod reading;
 

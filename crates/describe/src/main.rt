@@ -1,4 +1,6 @@
 //! Prints what the system file on standard input describes.
+#![tactic(auto)]
+
 use anyhow::anyhow;
 use description::describe;
 use std::io::Read;

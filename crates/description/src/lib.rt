@@ -1,4 +1,6 @@
 //! What a system file describes, as text for a person.
+#![tactic(auto)]
+
 mod file;
 mod text;
 

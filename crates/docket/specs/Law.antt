@@ -1,5 +1,5 @@
 -- The law over runs.
-use Rattle.std.specs.Prelude.{◌≡◌, ℕ, ◌+◌, ◌<◌, Bool, true, false, List, ◌++◌, Ok, Err, Result}
+use Rattle.std.specs.Prelude.{◌≡◌, ℕ, ◌+◌, ◌<◌, true, false, List, ◌++◌, Ok, Err, Result}
 use Rattle.arena.specs.Arena.{Arena}
 use Rattle.arena.specs.Pairs.{Largest, Relation, Simulation}
 use Rattle.arena.specs.Table.{number_standing, standing, stands}

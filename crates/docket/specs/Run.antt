@@ -1,5 +1,5 @@
 -- Runs: calls made one after the other on a docket and its table.
-use Rattle.std.specs.Prelude.{ℕ, Bool, true, false, ◌||◌, List, [], ◌∷◌, length, Some, None, Ok, Err, Option, Result}
+use Rattle.std.specs.Prelude.{Bool, true, false, ◌||◌, List, [], ◌∷◌, Ok, Err, Result}
 use Rattle.arena.specs.Arena.{Arena}
 use Rattle.docket.specs.Position.{Position}
 use Rattle.docket.specs.Settle.{settle_says}

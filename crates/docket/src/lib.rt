@@ -1,4 +1,6 @@
 //! Dockets: which states of a new system can stand in for which states of an old one.
+#![tactic(auto)]
+
 mod call;
 mod certificate;
 mod decision;

@@ -1,4 +1,6 @@
 //! Puts dockets, certificate checks and rank calls through many cases, and prints what they answer and leave.
+#![tactic(auto)]
+
 use arena::{Arena, Cause, Exchange};
 use docket::{Call, Docket, Refusal, Strike, check_certificate};
 use likeness::Exact;

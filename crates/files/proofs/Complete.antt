@@ -1,5 +1,5 @@
 -- Bytes that spell a system are read to that system.
-use Rattle.std.proofs.Common.{◌≡◌, ℕ, zero, suc, ◌+◌, ◌-◌, ◌*◌, ◌/◌, ◌%◌, ◌<◌, ◌≤◌, true, false, cond, ◌&&◌, ltb, List, [], ◌∷◌, ◌++◌, length, drop, None, sym, refl, ap, ◌∙◌, subst, inl, inr, mod-lt, div-lt_iff_lt-mul, mul-zero, div-add-mod', arith}
+use Rattle.std.proofs.Common.{◌≡◌, ℕ, zero, suc, ◌+◌, ◌-◌, ◌*◌, ◌/◌, ◌%◌, ◌<◌, ◌≤◌, ◌&&◌, ltb, List, ◌∷◌, length, None, sym, refl, ap, ◌∙◌, subst, inl, inr, mod-lt, div-lt_iff_lt-mul, mul-zero, div-add-mod', arith}
 use Rattle.std.proofs.lemmas.Bool.{and_cases, and_parts, cases_lt, cond_both, ltb-false, ltb-true}
 use Rattle.codec.specs.Filing.{filed, unfiled}
 use Rattle.codec.proofs.Filed.{unfiled-filed}
@@ -8,10 +8,10 @@ use Rattle.systems.specs.Meaning.{Meaning, Lawful, no_question}
 use Rattle.files.specs.Flattening.{readings_flattened, next_flattened, row_flattened, rows_flattened, flattened}
 use Rattle.files.specs.Put.{Few}
 use Rattle.files.specs.Sequence.{value_at, after, skip, nth, Spells}
-use Rattle.files.specs.SystemFile.{unread, controller_place, environment_place, next_place, next_numbers, row_end, row_start, states_at, channels_at, rows_place, row_at, file_words, file_fault, file_read, described}
+use Rattle.files.specs.SystemFile.{unread, controller_place, environment_place, next_place, next_numbers, row_end, row_start, states_at, channels_at, rows_place, row_at, described}
 use Rattle.files.specs.SystemWrite.{ReadsBack}
 use Rattle.files.proofs.Held.{same_meaning}
-use Rattle.files.proofs.Tested.{Fits, RowTested, FileTested, file_fault_from}
+use Rattle.files.proofs.Tested.{RowTested, FileTested, file_fault_from}
 use Rattle.files.proofs.Unspelled.{Here, One, spells_split, unspell_one, unspell_listed, unspell_rows_of}
 
 module _ (m : Meaning) (law : Lawful m) (few : Few m) (bytes : List ℕ) where

@@ -1,5 +1,5 @@
 -- The next states of a row lie in 16 words for each controller move, and their numbers stand one behind the other.
-use Rattle.std.proofs.Common.{◌≡◌, ℕ, suc, ◌+◌, ◌*◌, ◌/◌, ◌%◌, ◌<◌, ◌≤◌, min, cond, ltb, List, sym, refl, ap, ◌∙◌, inl, inr, add-mul, one-mul, arith}
+use Rattle.std.proofs.Common.{◌≡◌, ℕ, ◌+◌, ◌*◌, ◌/◌, ◌%◌, ◌<◌, ◌≤◌, min, cond, ltb, List, sym, refl, ap, ◌∙◌, inl, inr, add-mul, one-mul, arith}
 use Rattle.std.proofs.lemmas.Bool.{and_from, and_parts, both_ways, cases_Bool, cases_lt, ltb-true, lt-ltb, le-ltb}
 use Rattle.files.specs.Sequence.{value_at, after, skip, nth}
 use Rattle.files.specs.Words.{is_used, next_cell}

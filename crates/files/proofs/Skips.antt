@@ -1,5 +1,5 @@
 -- Steps of a loop from number to number.
-use Rattle.std.proofs.Common.{◌≡◌, ℕ, zero, suc, ◌+◌, ◌<◌, List, Some, None, Option, sym, refl, ap, ◌∙◌, subst, add-zero, add-suc, add-one}
+use Rattle.std.proofs.Common.{◌≡◌, ℕ, zero, suc, ◌+◌, ◌<◌, List, Some, None, Option, sym, refl, ap, ◌∙◌, add-zero, add-suc, add-one}
 use Rattle.systems.specs.Bounded.{first_below}
 use Rattle.systems.proofs.Bounded.{first_below_none_more, first_below_found}
 use Rattle.files.specs.Sequence.{after, skip}

@@ -1,5 +1,5 @@
 -- A system as the sequence of numbers that its file holds.
-use Rattle.std.specs.Prelude.{ℕ, List, [], ◌∷◌, ◌++◌, drop}
+use Rattle.std.specs.Prelude.{ℕ, List, ◌∷◌, ◌++◌, drop}
 use Rattle.codec.specs.Filing.{filed}
 use Rattle.systems.specs.Bounded.{joined_below, listed_below}
 use Rattle.systems.specs.Layout.{LaidOut, stored}

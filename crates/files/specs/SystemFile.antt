@@ -1,5 +1,5 @@
 -- A system file: the numbers n, c, and state by state the c readings, p, q and the p * q next states, the environment's move fastest.
-use Rattle.std.specs.Prelude.{ℕ, zero, suc, ◌+◌, ◌-◌, ◌*◌, ◌≤◌, Bool, cond, not, ◌&&◌, List, [], ◌∷◌, ◌++◌, Some, None, Ok, Err, Option, Result, nat_lt}
+use Rattle.std.specs.Prelude.{ℕ, zero, suc, ◌+◌, ◌-◌, ◌*◌, ◌≤◌, cond, ◌&&◌, List, Some, None, Ok, Err, Option, Result, nat_lt}
 use Rattle.codec.specs.Filing.{unfiled}
 use Rattle.codec.specs.declared.number.NumberFault.{NumberFault}
 use Rattle.systems.specs.Bounded.{within, or_else, first_below}

@@ -1,5 +1,5 @@
 -- Writing a system as the bytes of its file.
-use Rattle.std.specs.Prelude.{◌≡◌, ℕ, ◌+◌, ◌≤◌, Bool, cond, not, ◌&&◌, List, ◌++◌, length, Some, None, Option, nat_le, nat_lt}
+use Rattle.std.specs.Prelude.{◌≡◌, ℕ, ◌≤◌, Bool, cond, not, ◌&&◌, List, length, Some, None, Option, nat_le, nat_lt}
 use Rattle.std.specs.List.{flat_map}
 use Rattle.codec.specs.Number.{encoded}
 use Rattle.systems.specs.Bounded.{all_below}

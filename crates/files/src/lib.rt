@@ -1,4 +1,6 @@
 //! System files.
+#![tactic(auto)]
+
 mod check;
 mod encode;
 mod fault;

@@ -44,7 +44,7 @@ fn is_used(i: usize, controller: u16, environment: u16) -> bool
 
 /// The next state at the place and the place behind it, where it is used; else 0 and the same place.
 fn next_state(bytes: &[u8], place: usize, used: bool) -> (u16, usize)
-    ensures { result ≡ (if used then value_at bytes.now place, after bytes.now place else 0, place) }
+    ensures { result ≡ (if used then (value_at bytes.now place, after bytes.now place) else (0, place)) }
 {
     if used {
         number_or_zero(bytes, place)

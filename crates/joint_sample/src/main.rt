@@ -1,4 +1,6 @@
 //! Writes the joint of two buffers as a system file, and prints what that file describes.
+#![tactic(auto)]
+
 use anyhow::anyhow;
 use description::describe;
 use files::write_system;

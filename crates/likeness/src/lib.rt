@@ -1,4 +1,6 @@
 //! When two readings on a channel count as alike.
+#![tactic(auto)]
+
 mod exact;
 mod likeness;
 mod sea_state;

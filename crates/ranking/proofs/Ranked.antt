@@ -10,7 +10,7 @@ use Rattle.arena.specs.Bounds.{count_below}
 use Rattle.arena.specs.Pairs.{Relation, refuted}
 use Rattle.arena.specs.Table.{counts, entry, number_standing, pairs, stands, struck}
 use Rattle.docket.proofs.Good.{place, same_pair}
-use Rattle.ranking.specs.Rank.{Ranking, SolvesRanks, rank_pair, rank_round, rank_rounds, rank_row, rank_rows, ranked, ranking, sight_rank, sight_row, sight_rows, sighted, with_entry}
+use Rattle.ranking.specs.Rank.{Ranking, SolvesRanks, rank_pair, rank_round, rank_rounds, rank_row, rank_rows, ranking, sight_rank, sight_row, sight_rows, sighted, with_entry}
 
 -- Entries written by index: those of the pairs below the n-th are new, and all others are as before.
 pub record Filled (A : Arena) (new : ℕ → ℕ → ℕ) (before : List ℕ) (n : ℕ) (t : List ℕ) : Type 0 where

@@ -1,4 +1,6 @@
 //! Finite systems: what a buoy's controller and its environment can do, behind one interface.
+#![tactic(auto)]
+
 mod buffer;
 mod code_list;
 mod joint;

@@ -1,4 +1,6 @@
 //! Draws many exchanges, solves each a second way, and prints how often the docket's calls agreed.
+#![tactic(auto)]
+
 use crate::compare::{Tally, trial};
 use crate::draw::{Generator, ROOM, Shape, bend, draw_system};
 use anyhow::anyhow;

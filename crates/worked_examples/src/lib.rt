@@ -1,4 +1,6 @@
 //! The worked examples, as one statement about the definitions.
+#![tactic(auto)]
+
 ghost use Rattle.std.specs.Prelude.{◌≡◌};
 ghost use Rattle.worked_examples.specs.Examples.{WorkedExamples, example_count};
 

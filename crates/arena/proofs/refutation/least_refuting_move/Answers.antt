@@ -1,4 +1,4 @@
-use Rattle.std.proofs.Common.{sym, ap, ◌∙◌, arith}
+use Rattle.std.proofs.Common.{sym, arith}
 use Rattle.systems.proofs.Bounded.{all_below_more, all_below_false}
 use Rattle.arena.proofs.Bounds.{any_below_more, any_below_from, all_below_end, any_below_end}
 use Rattle.arena.proofs.Refuting.{none_before, none_more, found, none_at_all, struck_there}
@@ -14,7 +14,7 @@ pub loop-environment-preserved : goal.loop-environment-preserved
 loop-environment-preserved g c =
     let A = g.A.Arena.view c.args.arena.now in
     let gone = struck A c.args.table.now c.args.before in (
-      all_below_more c.loop-environment.environment _ c.loop-environment.invariant.0 (struck_there gone _ _ _ _ _ _ c.is-struck.ensures c.old-next-from.ensures c.loop-environment.invariant.1 c.if-not-is-struck.false),
+      all_below_more c.loop-environment.environment _ c.loop-environment.invariant.0 (struck_there gone _ _ _ _ _ _ c.is_struck.ensures c.old_next-from.ensures c.loop-environment.invariant.1 c.if-not-is_struck.false),
       c.loop-environment.invariant.1,
       c.loop-environment.invariant.2,
     )
@@ -24,7 +24,7 @@ answers-preserved g c =
     let A = g.A.Arena.view c.args.arena.now in
     let gone = struck A c.args.table.now c.args.before in (
       any_below_more c.answers.answer _ c.answers.invariant.0
-          (all_below_false (A.old_environment_moves c.args.pair.0) c.loop-environment.environment _ (omega (arith, c.loop-environment.invariant.2)) (struck_there gone _ _ _ _ _ _ c.is-struck.ensures c.old-next-from.ensures c.loop-environment.invariant.1 c.if-not-is-struck.true)),
+          (all_below_false (A.old_environment_moves c.args.pair.0) c.loop-environment.environment _ (omega (arith, c.loop-environment.invariant.2)) (struck_there gone _ _ _ _ _ _ c.is_struck.ensures c.old_next-from.ensures c.loop-environment.invariant.1 c.if-not-is_struck.true)),
       c.answers.invariant.1,
     )
 

@@ -8,23 +8,23 @@ use Rattle.arena.proofs.refutation.least_refuting_move.Given as goal
 abbrev pub invariant-loop-environment : goal.invariant-loop-environment
 invariant-loop-environment g l =
     let A = g.A.Arena.view l.arena in
-    (all_below l.environment (λ b. struck A l.table l.before (A.old_next l.old-state l.controller b) (A.new_next l.new-state l.reply l.answer)) ≡ true)
-    × (l.to ≡ A.new_next l.new-state l.reply l.answer)
-    × (l.environment-end ≡ A.old_environment_moves l.old-state)
+    (all_below l.environment (λ b. struck A l.table l.before (A.old_next l.old_state l.controller b) (A.new_next l.new_state l.reply l.answer)) ≡ true)
+    × (l.to ≡ A.new_next l.new_state l.reply l.answer)
+    × (l.environment-end ≡ A.old_environment_moves l.old_state)
 
 abbrev pub invariant-answers : goal.invariant-answers
 invariant-answers g l =
     let A = g.A.Arena.view l.arena in
-    (any_below l.answer (λ b'. spoils A (struck A l.table l.before) l.old-state l.new-state l.controller l.reply b') ≡ false)
-    × (l.answer-end ≡ A.new_environment_moves l.new-state)
+    (any_below l.answer (λ b'. spoils A (struck A l.table l.before) l.old_state l.new_state l.controller l.reply b') ≡ false)
+    × (l.answer-end ≡ A.new_environment_moves l.new_state)
 
 abbrev pub invariant-replies : goal.invariant-replies
 invariant-replies g l =
     let A = g.A.Arena.view l.arena in
-    (all_below l.reply (λ reply. spoilt A (struck A l.table l.before) l.old-state l.new-state l.controller reply) ≡ true)
-    × (l.reply-end ≡ A.new_controller_moves l.new-state)
+    (all_below l.reply (λ reply. spoilt A (struck A l.table l.before) l.old_state l.new_state l.controller reply) ≡ true)
+    × (l.reply-end ≡ A.new_controller_moves l.new_state)
 
 abbrev pub invariant-moves : goal.invariant-moves
 invariant-moves g l =
     let A = g.A.Arena.view l.arena in
-    least_refuting A (struck A l.table l.before) l.old-state l.new-state l.first l.controller ≡ None
+    least_refuting A (struck A l.table l.before) l.old_state l.new_state l.first l.controller ≡ None

@@ -7,13 +7,13 @@ pub loop-environment-preserved : goal.loop-environment-preserved
 loop-environment-preserved g c =
     let b = c.loop-environment.environment in
     let line = move_line (g.S.System.meaning c.args.system.now) c.args.state c.loop-controller.controller in
-    joined_more _ b line c.loop-environment.invariant c.in-ok-write-move.ensures
+    joined_more _ b line c.loop-environment.invariant c.in_ok-write_move.ensures
 
 pub loop-controller-preserved : goal.loop-controller-preserved
 loop-controller-preserved g c =
     let m = g.S.System.meaning c.args.system.now in
     let w = c.args.state in
     let a = c.loop-controller.controller in
-    let all : c.loop-environment.environment ≡ m.environment_moves w = omega (arith, c.environment-moves-environment-moves.ensures) in
+    let all : c.loop-environment.environment ≡ m.environment_moves w = omega (arith, c.environment_moves-environment_moves.ensures) in
     let here : string_bytes c.loop-environment.text ≡ string_bytes c.loop-controller.text ++ move_lines m w a = search rules in
     joined_more _ a (move_lines m w) c.loop-controller.invariant here

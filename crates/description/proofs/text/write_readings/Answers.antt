@@ -7,7 +7,7 @@ pub loop-channel-preserved : goal.loop-channel-preserved
 loop-channel-preserved g c =
     let reading = reading_text (g.S.System.meaning c.args.system.now) c.args.state in
     let k = c.loop-channel.channel in
-    joined_more _ k reading c.loop-channel.invariant c.in-ok-write-reading.ensures
+    joined_more _ k reading c.loop-channel.invariant c.in_ok-write_reading.ensures
 
 pub returns : goal.returns
 returns g c =

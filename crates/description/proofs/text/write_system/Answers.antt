@@ -5,7 +5,7 @@ use Rattle.description.proofs.text.write_system.Goals as goal
 
 pub loop-state-preserved : goal.loop-state-preserved
 loop-state-preserved g c =
-    joined_more _ c.loop-state.state (state_text (g.S.System.meaning c.args.system.now)) c.loop-state.invariant c.in-ok-write-state.ensures
+    joined_more _ c.loop-state.state (state_text (g.S.System.meaning c.args.system.now)) c.loop-state.invariant c.in_ok-write_state.ensures
 
 pub returns : goal.returns
 returns g c =

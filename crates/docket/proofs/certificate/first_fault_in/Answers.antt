@@ -4,7 +4,7 @@ use Rattle.docket.proofs.certificate.first_fault_in.Goals as goal
 
 pub returns-in-Some : goal.returns-in-Some
 returns-in-Some g c =
-    sym (first_below_found (g.A.Arena.view c.args.arena.now).new_states c.loop-column.column _ c.in-Some.fault c.loop-column.invariant (sym c.pair_fault.ensures ∙ c.in-Some.is) (omega (arith, c.new-states-column-end.ensures)))
+    sym (first_below_found (g.A.Arena.view c.args.arena.now).new_states c.loop-column.column _ c.in-Some.fault c.loop-column.invariant (sym c.pair_fault.ensures ∙ c.in-Some.is) (omega (arith, c.new_states-column-end.ensures)))
 
 pub loop-column-preserved : goal.loop-column-preserved
-loop-column-preserved g c = first_below_none_more c.loop-column.column _ c.loop-column.invariant (sym c.pair_fault.ensures ∙ c.in-default.is)
+loop-column-preserved g c = first_below_none_more c.loop-column.column _ c.loop-column.invariant (sym c.pair_fault.ensures ∙ c.in_default.is)

@@ -1,5 +1,4 @@
-use Rattle.std.proofs.Common.{◌≡◌, true, ◌&&◌, leb}
-use Rattle.systems.specs.Bounded.{all_below}
+use Rattle.std.proofs.Common.{◌≡◌, true}
 use Rattle.docket.specs.Refusals.{few_moves}
 use Rattle.docket.proofs.fit.few_old_moves.Given as goal
 

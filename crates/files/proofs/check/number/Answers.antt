@@ -1,4 +1,4 @@
-use Rattle.std.proofs.Common.{ap, ◌∙◌, rules}
+use Rattle.std.proofs.Common.{rules}
 use Rattle.files.specs.Sequence.{value_at, after}
 use Rattle.files.proofs.check.number.Goals as goal
 

@@ -11,11 +11,11 @@ returns c =
     let place = c.args.place in
     let value = c.args.value in
     record {
-      put = put_one bytes c.if-place-bytes.bytes place value c.encoded-len.result (omega (arith, c.ranges.value)) c.encoded-len.ensures.value
+      put = put_one bytes c.if-place-bytes.bytes place value c.encoded_len.result (omega (arith, c.ranges.value)) c.encoded_len.ensures.value
           (λ h. elim c.if-place-bytes.branch [
             | then-place-bytes w ↦
-                let fits : place + length (encoded value) ≤ length bytes = omega (arith, c.encoded-len.ensures.value) in
-                w.bytes-is ∙ ap (put_mid place (length bytes - place) bytes) w.write-number.ensures.bytes ∙ written_at bytes (encoded value) place fits
+                let fits : place + length (encoded value) ≤ length bytes = omega (arith, c.encoded_len.ensures.value) in
+                w.bytes-is ∙ ap (put_mid place (length bytes - place) bytes) w.write_number.ensures.bytes ∙ written_at bytes (encoded value) place fits
             | else-place-bytes w ↦ absurd (omega arith)
           ]);
       bound = search rules;

@@ -11,9 +11,9 @@ pub loop-channel-preserved : goal.loop-channel-preserved
 loop-channel-preserved g c =
     let m = g.S.System.meaning c.args.system.now in
     let fits : SFits w16 c.reading.result = search rules in
-    let filed-is = c.file-reading.ensures.answer ∙ ap filed (to_z-of_z w16 c.reading.result fits ∙ c.reading.ensures) in (
-      put_listed c.args.bytes.now c.loop-channel.bytes c.put-number-place.new.bytes c.args.start c.loop-channel.place c.put-number-place.result
-          c.loop-channel.channel c.file-reading.result (λ k. filed (m.reading c.args.state k))
-          c.loop-channel.invariant.0 c.loop-channel.auto.bytes filed-is c.put-number-place.ensures.put,
-      omega (arith, c.put-number-place.ensures.bound),
+    let filed-is = c.file_reading.ensures.answer ∙ ap filed (to_z-of_z w16 c.reading.result fits ∙ c.reading.ensures) in (
+      put_listed c.args.bytes.now c.loop-channel.bytes c.put_number-place.new.bytes c.args.start c.loop-channel.place c.put_number-place.result
+          c.loop-channel.channel c.file_reading.result (λ k. filed (m.reading c.args.state k))
+          c.loop-channel.invariant.0 c.loop-channel.auto.bytes filed-is c.put_number-place.ensures.put,
+      omega (arith, c.put_number-place.ensures.bound),
     )

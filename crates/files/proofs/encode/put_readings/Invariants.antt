@@ -1,4 +1,4 @@
-use Rattle.std.proofs.Common.{◌≡◌, ◌+◌, ◌*◌, ◌≤◌, [], ◌∷◌, length}
+use Rattle.std.proofs.Common.{◌+◌, ◌*◌, ◌≤◌}
 use Rattle.codec.specs.Filing.{filed}
 use Rattle.systems.specs.Bounded.{listed_below}
 use Rattle.files.specs.Put.{Put}

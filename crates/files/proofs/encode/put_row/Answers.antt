@@ -1,4 +1,4 @@
-use Rattle.std.proofs.Common.{[], ◌∷◌, subst, arith, rules}
+use Rattle.std.proofs.Common.{[], ◌∷◌, subst, rules}
 use Rattle.files.specs.Flattening.{readings_flattened, next_flattened}
 use Rattle.files.specs.Put.{Put}
 use Rattle.files.proofs.Puts.{put_then}
@@ -8,10 +8,10 @@ pub returns : goal.returns
 returns g c =
     let m = g.S.System.meaning c.args.system.now in
     let w = c.args.state in
-    let first = c.put-readings-place in
-    let second = c.put-number-place in
-    let third = c.put-number-place-2 in
-    let last = c.put-next-states in
+    let first = c.put_readings-place in
+    let second = c.put_number-place in
+    let third = c.put_number-place-2 in
+    let last = c.put_next_states in
     let p = subst (λ v. Put first.new.bytes first.result (v ∷ []) second.new.bytes second.result) c.controller_moves.ensures second.ensures.put in
     let q = subst (λ v. Put second.new.bytes second.result (v ∷ []) third.new.bytes third.result) c.environment_moves.ensures third.ensures.put in
     record {

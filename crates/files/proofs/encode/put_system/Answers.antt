@@ -7,9 +7,9 @@ use Rattle.files.proofs.encode.put_system.Goals as goal
 pub returns : goal.returns
 returns g c =
     let m = g.S.System.meaning c.args.system.now in
-    let first = c.put-number-behind-states in
-    let second = c.put-number-start in
-    let last = c.put-rows in
+    let first = c.put_number-behind_states in
+    let second = c.put_number-start in
+    let last = c.put_rows in
     let n = subst (λ v. Put c.args.bytes.now 0 (v ∷ []) first.new.bytes first.result) c.states-states.ensures first.ensures.put in
     let k = subst (λ v. Put first.new.bytes first.result (v ∷ []) second.new.bytes second.result) (c.from.ensures ∙ c.channels.ensures) second.ensures.put in
     let rows = subst (λ v. Put second.new.bytes second.result (rows_flattened m v) last.new.bytes last.result) c.states-states.ensures last.ensures in

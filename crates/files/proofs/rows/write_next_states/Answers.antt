@@ -1,4 +1,4 @@
-use Rattle.std.proofs.Common.{◌≡◌, ℕ, ◌+◌, ◌<◌, Bool, cond, ◌≢◌, length, sym, ap, ◌∙◌, arith, get_or-set_other, get_or-set_same, rules, below_more}
+use Rattle.std.proofs.Common.{◌≡◌, ℕ, ◌+◌, ◌<◌, Bool, cond, ◌≢◌, length, ap, ◌∙◌, arith, get_or-set_other, get_or-set_same, below_more}
 use Rattle.files.specs.Sequence.{value_at, after, skip}
 use Rattle.files.specs.Words.{next_cell}
 use Rattle.files.proofs.Grid.{next_step, used_all, used_before}
@@ -9,8 +9,8 @@ loop-i-preserved c =
     let bytes = c.args.bytes.now in
     let place = c.loop-i.place in
     let taken : Bool → ℕ × ℕ = λ used. cond used (value_at bytes place, after bytes place) (0, place) in
-    let step : ◌≡◌ {A = ℕ × ℕ} c.next-state.result (next_cell bytes c.args.controller c.args.environment c.args.start c.loop-i.i, skip bytes (used_before c.args.controller c.args.environment (c.loop-i.i + 1)) c.args.start) =
-    c.next-state.ensures ∙ ap taken c.is_used.ensures
+    let step : ◌≡◌ {A = ℕ × ℕ} c.next_state.result (next_cell bytes c.args.controller c.args.environment c.args.start c.loop-i.i, skip bytes (used_before c.args.controller c.args.environment (c.loop-i.i + 1)) c.args.start) =
+    c.next_state.ensures ∙ ap taken c.is_used.ensures
     ∙ next_step bytes c.args.start c.args.controller c.args.environment c.loop-i.i place c.requires.1.1 c.loop-i.invariant.0 in (
       ap (λ found. found.1) step,
       below_more _ _

@@ -5,4 +5,4 @@ use Rattle.files.proofs.sequence.number_or_zero.Goals as goal
 
 pub returns : goal.returns
 unfolding value_at after
-returns c = c.unwrap-or.ensures ∙ ap (λ found. result_unwrap_or found (0, c.args.place)) c.read-number-at.ensures
+returns c = c.unwrap_or.ensures ∙ ap (λ found. result_unwrap_or found (0, c.args.place)) c.read_number_at.ensures

@@ -10,26 +10,26 @@ use Rattle.files.proofs.Parts.{put_is, drop-put, part_long}
 use Rattle.files.proofs.Tested.{granted}
 use Rattle.files.proofs.system_read.lay_out.Goals as goal
 
-pub overflow-add-at : goal.overflow-add-at
-overflow-add-at c =
+pub overflow_add-at : goal.overflow_add-at
+overflow_add-at c =
     let file = granted c.args.bytes.now c.args.place (length c.args.memory.now) c.args.at c.args.file c.requires.0 c.requires.1 in
     let h = file.inside in
     search rules
 
-pub offset-bounds-memory-at : goal.offset-bounds-memory-at
-offset-bounds-memory-at c =
+pub offset_bounds-memory-at : goal.offset_bounds-memory-at
+offset_bounds-memory-at c =
     let file = granted c.args.bytes.now c.args.place (length c.args.memory.now) c.args.at c.args.file c.requires.0 c.requires.1 in
     let h = file.inside in
     search rules
 
-pub slice-bounds-write-words-end : goal.slice-bounds-write-words-end
-slice-bounds-write-words-end c =
+pub slice_bounds-write_words-end : goal.slice_bounds-write_words-end
+slice_bounds-write_words-end c =
     let file = granted c.args.bytes.now c.args.place (length c.args.memory.now) c.args.at c.args.file c.requires.0 c.requires.1 in
     let h = file.inside in
     search rules
 
-pub write-words-requires : goal.write-words-requires
-write-words-requires c =
+pub write_words-requires : goal.write_words-requires
+write_words-requires c =
     let file = granted c.args.bytes.now c.args.place (length c.args.memory.now) c.args.at c.args.file c.requires.0 c.requires.1 in
     let bytes = c.args.bytes.now in
     let few : TestedFile → Type 0 = λ f. (w : ℕ) → w < f.sizes.states → FewMoves bytes f.sizes.channels (row_start bytes f.sizes.channels f.start w) in (
@@ -44,14 +44,14 @@ returns c =
     let place = c.args.place in
     let memory = c.args.memory.now in
     let at = c.args.at in
-    let words = c.write-words.new.words in
+    let words = c.write_words.new.words in
     let m = described bytes place in
     let Written : TestedFile → Type 0 = λ f.
     (length words ≡ words_taken f.sizes.states f.sizes.channels) × (get_or words 0 0 ≡ f.sizes.states) × (get_or words 1 0 ≡ f.sizes.channels)
     × ((w j : ℕ) → w < f.sizes.states → j < row_words f.sizes.channels
     → get_or words (row_place f.sizes.channels w + j) 0 ≡ row_cell bytes f.sizes.channels (row_start bytes f.sizes.channels f.start w) j) in
-    let long : length words ≡ c.args.file.words = c.write-words.auto.words ∙ part_long memory at c.args.file.words file.inside in
-    let done = subst Written file.is (long ∙ file.words_are, c.write-words.ensures.states, c.write-words.ensures.channels, c.write-words.ensures.rows) in
+    let long : length words ≡ c.args.file.words = c.write_words.auto.words ∙ part_long memory at c.args.file.words file.inside in
+    let done = subst Written file.is (long ∙ file.words_are, c.write_words.ensures.states, c.write_words.ensures.channels, c.write_words.ensures.rows) in
     let laid : words ≡ system_words m = words_are bytes place words done.0 done.1 done.2 done.3 in
     let after : List ℕ = put_mid at (at + c.args.file.words - at) memory words in
     let exit = put_is memory words (system_words m) at c.args.file.words laid (sym long ∙ ap length laid) in

@@ -1,4 +1,4 @@
-use Rattle.std.proofs.Common.{◌≡◌, ◌-◌, List, ◌++◌, length, drop, sym, subst, arith, length-append}
+use Rattle.std.proofs.Common.{◌≡◌, ◌-◌, ◌++◌, length, drop, sym, subst, arith, length-append}
 use Rattle.files.specs.Flattening.{flattened}
 use Rattle.files.specs.SystemWrite.{ReadsBack, system_bytes}
 use Rattle.files.proofs.Complete.{reads_back}
@@ -9,10 +9,10 @@ pub returns : goal.returns
 returns g c =
     let m = g.S.System.meaning c.args.system.now in
     let before = c.args.bytes.now in
-    let put = c.put-system.ensures in
+    let put = c.put_system.ensures in
     let file = system_bytes m in
     let rest = drop (length file) before in
-    let is = put_in_place before c.put-system.new.bytes (flattened m) c.put-system.result put c.requires.1 in
+    let is = put_in_place before c.put_system.new.bytes (flattened m) c.put_system.result put c.requires.1 in
     let count : length (file ++ rest) - length rest ≡ length file = omega (arith, length-append file rest) in
     let back = reads_back m (g.S.System.lawful c.args.system.now) c.requires.0 (file ++ rest) rest (Spells-spelled (flattened m) rest put.small) in
     record {

@@ -1,4 +1,4 @@
-use Rattle.std.proofs.Common.{refl, rules}
+use Rattle.std.proofs.Common.{refl}
 use Rattle.systems.proofs.Translated.{steps}
 use Rattle.systems.proofs.code_list.translated.Goals as goal
 

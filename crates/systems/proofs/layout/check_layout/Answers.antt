@@ -6,32 +6,32 @@ use Rattle.systems.proofs.layout.check_layout.Goals as goal
 use Rattle.systems.specs.Bounded.{first_below}
 use Rattle.systems.specs.Layout.{layout, row_fault, rows_answer, state_count}
 
-pub check-row-requires : goal.check-row-requires
-check-row-requires c =
+pub check_row-requires : goal.check_row-requires
+check_row-requires c =
     let words = c.args.words.now in row_held words c.loop-state.state (state_count words) (search rules) (search rules)
 
-pub returns-in-err-check-row : goal.returns-in-err-check-row
-returns-in-err-check-row c =
+pub returns-in_err-check_row : goal.returns-in_err-check_row
+returns-in_err-check_row c =
     let words = c.args.words.now in
-    let fault = c.in-err-check-row.field-0.0 in
-    let left = err_from_is_err_and c.from-residual.result c.from-residual.ensures.1 in
+    let fault = c.in_err-check_row.field-0.0 in
+    let left = err_from_is_err_and c.from_residual.result c.from_residual.ensures.1 in
     let rows : first_below (state_count words) (row_fault words) ≡ Some fault =
     first_below_found (state_count words) c.loop-state.state (row_fault words) fault c.loop-state.invariant
-    c.in-err-check-row.ensures
+    c.in_err-check_row.ensures
     (search rules) in
-    let answer : c.from-residual.result ≡ layout words =
+    let answer : c.from_residual.result ≡ layout words =
     search (rules, left.1, left.2, layout_by_rows words, ap (rows_answer words) rows) in
-    record { answer = answer; decides = layout_decides words c.from-residual.result answer }
+    record { answer = answer; decides = layout_decides words c.from_residual.result answer }
 
 pub loop-state-preserved : goal.loop-state-preserved
 loop-state-preserved c =
     first_below_none_more c.loop-state.state (row_fault c.args.words.now) c.loop-state.invariant
-    c.in-ok-check-row.ensures
+    c.in_ok-check_row.ensures
 
 pub returns : goal.returns
 returns c =
     let words = c.args.words.now in
     let rows : first_below (state_count words) (row_fault words) ≡ None = search rules in
-    let answer : Ok c.row-place-taken.result ≡ layout words =
+    let answer : Ok c.row_place-taken.result ≡ layout words =
     search (rules, layout_by_rows words, ap (rows_answer words) rows) in
     record { answer = answer; decides = layout_decides words _ answer }

@@ -9,9 +9,9 @@ loop-call-preserved g c =
     let calls = c.args.calls.now in
     let i = c.loop-call.call-index in (
       after_next A calls i Open _ _ c.loop-call-test.true c.perform-answer.ensures.after ∙ c.loop-call.invariant.0,
-      answers_next A calls i Open _ _ _ _ _ c.loop-call-test.true c.perform-answer.ensures.after c.perform-answer.ensures.answer c.push-reserved.ensures.items ∙ c.loop-call.invariant.1,
-      omega (arith, c.push-reserved.ensures.len, c.push-reserved.ensures.capacity, c.loop-call.invariant.2),
-      c.push-reserved.ensures.capacity ∙ c.loop-call.invariant.3,
+      answers_next A calls i Open _ _ _ _ _ c.loop-call-test.true c.perform-answer.ensures.after c.perform-answer.ensures.answer c.push_reserved.ensures.items ∙ c.loop-call.invariant.1,
+      omega (arith, c.push_reserved.ensures.len, c.push_reserved.ensures.capacity, c.loop-call.invariant.2),
+      c.push_reserved.ensures.capacity ∙ c.loop-call.invariant.3,
     )
 
 pub returns : goal.returns

@@ -10,9 +10,9 @@ returns-in-Ok g c =
     let A = g.A.Arena.view c.args.arena.now in
     let closed = g.A.Arena.closed c.args.arena.now in
     record {
-      made = (c.perform-all.ensures.answered ∙ ap (λ given. given ++ answers A (position (view c.args.self.now) c.args.table.now) c.args.calls.now) c.reserve.ensures.items, c.perform-all.ensures.after);
+      made = (c.perform_all.ensures.answered ∙ ap (λ given. given ++ answers A (position (view c.args.self.now) c.args.table.now) c.args.calls.now) c.reserve.ensures.items, c.perform_all.ensures.after);
       room = λ _. refl;
-      capacity = omega (arith, c.reserve.ensures.capacity, c.perform-all.ensures.capacity);
+      capacity = omega (arith, c.reserve.ensures.capacity, c.perform_all.ensures.capacity);
       law = run_law A closed (position (view c.args.self.now) c.args.table.now) c.args.calls.now;
       certificates = certificate_law A closed;
     }

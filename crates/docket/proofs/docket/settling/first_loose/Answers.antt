@@ -4,7 +4,7 @@ use Rattle.docket.proofs.docket.settling.first_loose.Goals as goal
 
 pub returns-in-Some : goal.returns-in-Some
 returns-in-Some g c =
-    sym (first_below_found (g.A.Arena.view c.args.arena.now).old_states c.loop-row.row _ c.in-Some.strike c.loop-row.invariant (sym c.first_loose_in.ensures ∙ c.in-Some.is) (omega (arith, c.old-states-row-end.ensures)))
+    sym (first_below_found (g.A.Arena.view c.args.arena.now).old_states c.loop-row.row _ c.in-Some.strike c.loop-row.invariant (sym c.first_loose_in.ensures ∙ c.in-Some.is) (omega (arith, c.old_states-row-end.ensures)))
 
 pub loop-row-preserved : goal.loop-row-preserved
-loop-row-preserved g c = first_below_none_more c.loop-row.row _ c.loop-row.invariant (sym c.first_loose_in.ensures ∙ c.in-default.is)
+loop-row-preserved g c = first_below_none_more c.loop-row.row _ c.loop-row.invariant (sym c.first_loose_in.ensures ∙ c.in_default.is)

@@ -6,4 +6,4 @@ use Rattle.docket.proofs.docket.striking.does_refute.Goals as goal
 pub returns : goal.returns
 returns g c =
     let A = g.A.Arena.view c.args.arena.now in
-    c.is-some.ensures ∙ ap is_some c.least-refuting-move.ensures ∙ one_refutes A (struck A c.args.table.now None) c.args.pair.0 c.args.pair.1 c.args.controller
+    c.is_some.ensures ∙ ap is_some c.least_refuting_move.ensures ∙ one_refutes A (struck A c.args.table.now None) c.args.pair.0 c.args.pair.1 c.args.controller

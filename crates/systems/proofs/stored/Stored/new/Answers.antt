@@ -3,6 +3,6 @@ use Rattle.systems.proofs.LaidOut.{stored_words_laid_out}
 use Rattle.systems.proofs.stored.Stored.new.Goals as goal
 use Rattle.systems.specs.Layout.{LaidOut}
 
-pub invariant-of-result : goal.invariant-of-result
-invariant-of-result c =
-    (∣ subst LaidOut (sym c.words-or-resting.ensures) (stored_words_laid_out c.args.words.now) ∣₁, tt)
+pub invariant_of-result : goal.invariant_of-result
+invariant_of-result c =
+    record { ok = ∣ subst LaidOut (sym c.words_or_resting.ensures) (stored_words_laid_out c.args.words.now) ∣₁ }

@@ -5,5 +5,5 @@ use Rattle.systems.specs.Laws.{laid_out}
 pub bounds-self-1 : goal.bounds-self-1
 bounds-self-1 c = let s = c.args.self.now in omega (arith, (laid_out s.words.now s.ok).4)
 
-pub overflow-cast-result : goal.overflow-cast-result
-overflow-cast-result c = let s = c.args.self.now in search (rules, (laid_out s.words.now s.ok).3)
+pub overflow_cast-result : goal.overflow_cast-result
+overflow_cast-result c = let s = c.args.self.now in search (rules, (laid_out s.words.now s.ok).3)

@@ -4,7 +4,7 @@ use Rattle.systems.proofs.stored.StoredSystem.controller_moves.Goals as goal
 use Rattle.systems.specs.Layout.{state_count}
 use Rattle.systems.specs.Laws.{laid_out}
 
-pub controller-word-requires : goal.controller-word-requires
-controller-word-requires c =
+pub controller_word-requires : goal.controller_word-requires
+controller_word-requires c =
     let s = c.args.self.now in
     row_held s.words.now c.args.state (state_count s.words.now) (search rules) (laid_out s.words.now s.ok).4

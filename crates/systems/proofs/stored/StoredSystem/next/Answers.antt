@@ -4,8 +4,8 @@ use Rattle.systems.proofs.stored.StoredSystem.next.Goals as goal
 use Rattle.systems.specs.Layout.{state_count}
 use Rattle.systems.specs.Laws.{laid_out}
 
-pub next-word-requires : goal.next-word-requires
-next-word-requires c =
+pub next_word-requires : goal.next_word-requires
+next_word-requires c =
     let s = c.args.self.now in
     let there : c.args.state < state_count s.words.now = search rules in
     let ok = laid_out s.words.now s.ok in
