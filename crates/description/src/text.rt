@@ -3,7 +3,6 @@ ghost use Rattle.std.specs.Prelude.{◌≡◌, ◌++◌, IfOk, string_bytes, OnO
 ghost use Rattle.description.specs.Text.{system_text, state_text, reading_text, readings_line, move_line, moves_text};
 
 use std::alloc::{AllocError, Global};
-use std::fmt;
 use systems::System;
 
 /// The whole system as text: its sizes, and state by state the readings, the moves and where each pair of moves leads.
@@ -11,15 +10,12 @@ pub fn system_text<S: System>(heap: Global, system: &S) -> Result<String, AllocE
     ensures { IfOk result (λ text. string_bytes text ≡ system_text (S.System.meaning system.now)) }
 {
     let mut text = String::new(heap);
-    match write_system(&mut text, system) {
-        Ok(()) => Ok(text),
-        // a `String` takes every text that it finds memory for
-        Err(_) => Err(AllocError),
-    }
+    write_system(&mut text, system)?;
+    Ok(text)
 }
 
 /// Adds the whole system to the text.
-fn write_system<S: System>(text: &mut String, system: &S) -> fmt::Result
+fn write_system<S: System>(text: &mut String, system: &S) -> Result<(), AllocError>
     ensures { OnOk result (string_bytes text.new ≡ string_bytes text.old ++ system_text (S.System.meaning system.now)) }
 {
     let states = system.states();
@@ -33,7 +29,7 @@ fn write_system<S: System>(text: &mut String, system: &S) -> fmt::Result
 }
 
 /// Adds what is known of one state to the text.
-fn write_state<S: System>(text: &mut String, system: &S, state: u16) -> fmt::Result
+fn write_state<S: System>(text: &mut String, system: &S, state: u16) -> Result<(), AllocError>
     ensures { OnOk result (string_bytes text.new ≡ string_bytes text.old ++ state_text (S.System.meaning system.now) state) }
 {
     let controller_moves = system.controller_moves(state);
@@ -46,7 +42,12 @@ fn write_state<S: System>(text: &mut String, system: &S, state: u16) -> fmt::Res
 }
 
 /// Adds what a channel shows at the state to the text.
-fn write_reading<S: System>(text: &mut String, system: &S, state: u16, channel: u8) -> fmt::Result
+fn write_reading<S: System>(
+    text: &mut String,
+    system: &S,
+    state: u16,
+    channel: u8,
+) -> Result<(), AllocError>
     ensures { OnOk result (string_bytes text.new ≡ string_bytes text.old ++ reading_text (S.System.meaning system.now) state channel) }
 {
     let reading = system.reading(state, channel);
@@ -54,7 +55,7 @@ fn write_reading<S: System>(text: &mut String, system: &S, state: u16, channel: 
 }
 
 /// Adds the line of the state's readings to the text.
-fn write_readings<S: System>(text: &mut String, system: &S, state: u16) -> fmt::Result
+fn write_readings<S: System>(text: &mut String, system: &S, state: u16) -> Result<(), AllocError>
     ensures { OnOk result (string_bytes text.new ≡ string_bytes text.old ++ readings_line (S.System.meaning system.now) state) }
 {
     let channels = system.channels();
@@ -72,7 +73,7 @@ fn write_move<S: System>(
     state: u16,
     controller: u16,
     environment: u16,
-) -> fmt::Result
+) -> Result<(), AllocError>
     ensures { OnOk result (string_bytes text.new ≡ string_bytes text.old ++ move_line (S.System.meaning system.now) state controller environment) }
 {
     let next = system.next(state, controller, environment);
@@ -83,7 +84,7 @@ fn write_move<S: System>(
 }
 
 /// Adds a line for each pair of moves at the state to the text.
-fn write_moves<S: System>(text: &mut String, system: &S, state: u16) -> fmt::Result
+fn write_moves<S: System>(text: &mut String, system: &S, state: u16) -> Result<(), AllocError>
     ensures { OnOk result (string_bytes text.new ≡ string_bytes text.old ++ moves_text (S.System.meaning system.now) state) }
 {
     let controller_moves = system.controller_moves(state);

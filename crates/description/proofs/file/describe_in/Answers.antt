@@ -1,8 +1,8 @@
-use Rattle.std.proofs.Common.{◌≡◌, ◌-◌, length, sym, ap, ◌∙◌, subst, arith, rules}
+use Rattle.std.proofs.Common.{◌≡◌, ◌-◌, length, ap, ◌∙◌, arith}
 use Rattle.std.proofs.lemmas.Result.{err_from_is_err_and}
 use Rattle.systems.specs.Layout.{stored}
 use Rattle.systems.proofs.LaidOut.{stored_words_kept}
-use Rattle.files.specs.SystemFile.{described, file_fault, file_read}
+use Rattle.files.specs.SystemFile.{file_fault, file_read}
 use Rattle.files.proofs.Faults.{unless_err, unless_ok}
 use Rattle.description.specs.File.{file_text}
 use Rattle.description.proofs.file.describe_in.Goals as goal

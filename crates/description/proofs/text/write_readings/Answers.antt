@@ -1,4 +1,4 @@
-use Rattle.std.proofs.Common.{◌≡◌, ◌++◌, string_bytes, append_assoc, arith, rules}
+use Rattle.std.proofs.Common.{◌≡◌, append_assoc, arith, rules}
 use Rattle.description.proofs.Texts.{joined_more}
 use Rattle.description.specs.Text.{reading_text}
 use Rattle.description.proofs.text.write_readings.Goals as goal
