@@ -4,7 +4,7 @@ use borrow.Rule.Slice.PartMut.{put_mid}
 use Rattle.std.proofs.ByRecursion.{All-append}
 use Rattle.std.proofs.lemmas.List.{take_rest, drop-drop, drop_all, take_at, drop_at, take-append-drop, length-take-le}
 use Rattle.std.proofs.lemmas.Bool.{and_parts, le-leb, leb-true}
-use Rattle.std.specs.List.{AllByRecursion as All}
+use Rattle.std.specs.List.{AllByRecursion}
 use Rattle.codec.specs.Number.{number, encoded, put_in_front}
 use Rattle.codec.proofs.Encoded.{number-encoded}
 use Rattle.systems.specs.Bounded.{all_below, joined_below, listed_below}
@@ -95,7 +95,7 @@ put_listed before mid after start place end k value gives first same is second =
     put_joined before mid after start place end k (λ j. gives j ∷ []) first same (subst (λ v. Put mid place (v ∷ []) after end) is second)
 
 -- what is spelled is read back
-pub Spells-spelled : (ns rest : List ℕ) → All (λ n. n < 65536) ns → Spells ns (spelled ns ++ rest) rest
+pub Spells-spelled : (ns rest : List ℕ) → AllByRecursion (λ n. n < 65536) ns → Spells ns (spelled ns ++ rest) rest
 Spells-spelled [] rest small = refl
 Spells-spelled (n ∷ ns) rest small =
     let back : List ℕ = spelled ns ++ rest in

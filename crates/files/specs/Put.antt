@@ -1,13 +1,13 @@
 -- Numbers that were put into bytes, from a place on.
 use Rattle.std.specs.Prelude.{◌≡◌, ℕ, ◌+◌, ◌<◌, ◌≤◌, List, length}
-use Rattle.std.specs.List.{AllByRecursion as All}
+use Rattle.std.specs.List.{AllByRecursion}
 use Rattle.systems.specs.Meaning.{Meaning}
 use Rattle.files.specs.SystemWrite.{spelled}
 use Rattle.files.specs.Words.{put_at}
 
 -- the numbers end at `end`; they have 16 bits, and stand in the bytes if there is room for all of them
 pub record Put (before : List ℕ) (place : ℕ) (numbers : List ℕ) (after : List ℕ) (end : ℕ) : Type 0 where
-  pub small : All (λ n. n < 65536) numbers
+  pub small : AllByRecursion (λ n. n < 65536) numbers
   pub ends : end ≡ place + length (spelled numbers)
   pub stands : end ≤ length before → after ≡ put_at before place (spelled numbers)
 
