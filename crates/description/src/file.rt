@@ -1,5 +1,5 @@
 //! What a system file describes.
-ghost use Rattle.std.specs.Prelude.{◌≡◌, length, IfOk, Some, string_bytes};
+ghost use Rattle.std.specs.Prelude.{◌≡◌, length, vec_len, IfOk, Some, string_bytes};
 ghost use Rattle.description.specs.File.{file_text, Describes};
 ghost use Rattle.description.specs.declared.file.DescribeError.TheVariants.{Refused, NoMemory};
 ghost use Rattle.description.specs.Failure.{error_text};
@@ -72,10 +72,17 @@ fn describe_in(heap: Global, bytes: &[u8], memory: &mut [u16]) -> Result<String,
     Ok(text)
 }
 
+/// So many words, all 0.
+fn cleared_words(heap: Global, count: usize) -> Result<Vec<u16>, AllocError>
+    ensures { IfOk result (λ words. vec_len words ≡ count) }
+{
+    vec![in heap; 0u16; count]
+}
+
 /// What the system file at the front of the bytes describes.
 pub fn describe(heap: Global, bytes: &[u8]) -> Result<String, DescribeError>
     ensures { Describes bytes.now 68098 result }
 {
-    let mut memory = vec![in heap; 0u16; MOST_WORDS]?;
+    let mut memory = cleared_words(heap, MOST_WORDS)?;
     describe_in(heap, bytes, &mut memory)
 }
