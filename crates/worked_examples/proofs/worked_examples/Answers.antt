@@ -1,6 +1,5 @@
-use Rattle.std.proofs.Common.{refl}
 use Rattle.worked_examples.proofs.Computed.{computed}
 use Rattle.worked_examples.proofs.worked_examples.Goals as goal
 
-pub returns : goal.returns
-returns c = record { number = refl; examples = computed }
+pub returns-clause-examples : goal.returns-clause-examples
+returns-clause-examples c = computed
