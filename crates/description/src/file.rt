@@ -72,8 +72,8 @@ fn describe_in(heap: Global, bytes: &[u8], memory: &mut [u16]) -> Result<String,
     Ok(text)
 }
 
-/// So many words, all 0.
-fn cleared_words(heap: Global, count: usize) -> Result<Vec<u16>, AllocError>
+/// Memory for so many words. What they hold at first does not matter.
+fn memory_for(heap: Global, count: usize) -> Result<Vec<u16>, AllocError>
     ensures { IfOk result (λ words. vec_len words ≡ count) }
 {
     vec![in heap; 0u16; count]
@@ -83,6 +83,6 @@ fn cleared_words(heap: Global, count: usize) -> Result<Vec<u16>, AllocError>
 pub fn describe(heap: Global, bytes: &[u8]) -> Result<String, DescribeError>
     ensures { Describes bytes.now 68098 result }
 {
-    let mut memory = cleared_words(heap, MOST_WORDS)?;
+    let mut memory = memory_for(heap, MOST_WORDS)?;
     describe_in(heap, bytes, &mut memory)
 }
