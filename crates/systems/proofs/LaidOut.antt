@@ -13,13 +13,14 @@ use Rattle.systems.specs.declared.layout.LayoutFault.TheVariants.{States, Channe
 pub row_held : (words : List ℕ) (w n : ℕ) → w < n → words_taken n (channel_count words) ≤ length words → RowHeld words w
 row_held words w n l h = let r : ℕ = row_words (channel_count words) in omega (arith, mul-le (suc w) r n r (omega arith) (omega arith))
 
--- the next states of a row, as a test and as a statement
+-- the test of a row's next states says that each is a state
 next_states_true : (words : List ℕ) (w : ℕ) → next_states_fit words w ≡ true
     → (a b : ℕ) → a < controller_word words w → b < environment_word words w → next_word words w a b < state_count words
 next_states_true words w h a b p q =
     let fits : move_fits words w a ≡ true = all_below_true (controller_word words w) (move_fits words w) h a p in
     ltb-true (next_word words w a b) (state_count words) (all_below_true (environment_word words w) (next_fits words w a) fits b q)
 
+-- and the other way round
 next_states_from : (words : List ℕ) (w : ℕ)
     → ((a b : ℕ) → a < controller_word words w → b < environment_word words w → next_word words w a b < state_count words)
     → next_states_fit words w ≡ true
@@ -37,6 +38,7 @@ ok_past : {X E : Type 0} (t : Bool) (e : E) (rest : Result X E) → is_ok (cond 
 ok_past true e rest h = absurd (false≢true h)
 ok_past false e rest h = (refl, h)
 
+-- a row with no fault has the layout
 pub row_sound : (words : List ℕ) (w : ℕ) → row_fault words w ≡ None → RowLaidOut words w
 row_sound words w h =
     let p : ℕ = controller_word words w in
@@ -48,6 +50,7 @@ row_sound words w h =
     let environment = within_true 1 16 q counts.1 in
     (controller.0, controller.1, environment.0, environment.1, next_states_true words w (not-false (next_states_fit words w) second.0))
 
+-- a row that has the layout has no fault
 pub row_complete : (words : List ℕ) (w : ℕ) → RowLaidOut words w → row_fault words w ≡ None
 row_complete words w ok =
     let p : ℕ = controller_word words w in
@@ -57,10 +60,12 @@ row_complete words w ok =
     cond-false (not (within 1 16 p && within 1 16 q)) (Some Moves) _ (not_from_true (within 1 16 p && within 1 16 q) counts)
     ∙ cond-false (not (next_states_fit words w)) (Some NextState) None (not_from_true (next_states_fit words w) (next_states_from words w ok.4))
 
+-- the check of the rows passes only where no row has a fault
 rows_none : (words : List ℕ) (o : Option LayoutFault) → is_ok (rows_answer words o) ≡ true → o ≡ None
 rows_none words (Some fault) h = absurd (false≢true h)
 rows_none words None h = refl
 
+-- words that the check passes have the layout
 pub layout_sound : (words : List ℕ) → is_ok (layout words) ≡ true → LaidOut words
 layout_sound words h =
     let n : ℕ = state_count words in
@@ -93,15 +98,18 @@ layout_by_rows words some_state states some_channel channels room =
     ∙ (cond-false (not (within 1 8 c)) (Err Channels) _ (not_from_true (within 1 8 c) (within_from 1 8 c some_channel channels))
     ∙ cond-false (ltb (length words) (words_taken n c)) (Err TooShort) _ (le-ltb (length words) (words_taken n c) room)))
 
+-- the check passes words that have the layout, and answers how many they take
 pub layout_complete : (words : List ℕ) → LaidOut words → layout words ≡ Ok (words_taken (state_count words) (channel_count words))
 layout_complete words ok =
     layout_by_rows words ok.0 ok.1 ok.2 ok.3 ok.4
     ∙ ap (rows_answer words) (first_below_none_from (state_count words) (row_fault words) (λ w l. row_complete words w (ok.5 w l)))
 
+-- so an answer that is the check's decides the layout
 pub layout_decides : (words : List ℕ) (r : Result ℕ LayoutFault) → r ≡ layout words → Decides (is_ok r) (LaidOut words)
 layout_decides words r e =
     Decides-at (is_ok r) (is_ok (layout words)) (ap is_ok e) (layout_sound words, λ ok. ap is_ok (layout_complete words ok))
 
+-- the resting system has the layout, by the check
 pub resting_laid_out : LaidOut resting
 resting_laid_out = layout_sound resting refl
 

@@ -1,3 +1,4 @@
 pub mod Bounded
 pub mod LaidOut
+pub mod Once
 pub mod Translated

@@ -1,9 +1,14 @@
 -- A list of codes over a system, on one channel.
-use Rattle.std.specs.Prelude.{ℕ, cond, ◌&&◌, List, [], ◌∷◌, ◌++◌, length, pos, Ok, Err, Result, ◌==◌, int_le, nat_lt}
+use Rattle.std.specs.Prelude.{ℕ, cond, ◌&&◌, List, [], ◌∷◌, ◌++◌, length, take, pos, Ok, Err, Result, ◌==◌, int_le, nat_lt}
 use Rattle.systems.specs.Meaning.{Meaning, Reading, same_reading}
-use Rattle.systems.specs.declared.code_list.CodeEntry.{CodeEntry}
+use Rattle.systems.specs.declared.codes.CodeEntry.{CodeEntry}
+use Rattle.systems.specs.declared.codes.Codes.{Codes}
 use Rattle.systems.specs.declared.code_list.CodeFault.{CodeFault}
 use Rattle.systems.specs.declared.code_list.CodeFault.TheVariants.{Full}
+
+-- the entries in use: the first `count`
+abbrev pub listed : Codes → List CodeEntry
+listed codes = take codes.count codes.entries
 
 -- what the first entry whose `from` equals the reading gives, or the reading where there is none
 abbrev pub translated : List CodeEntry → Reading → Reading

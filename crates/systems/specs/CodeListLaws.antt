@@ -4,7 +4,7 @@ use Rattle.std.proofs.Common.{◌∙◌}
 use Rattle.std.proofs.lemmas.Bool.{and_left, and_right, cond-false, le-ltb}
 use Rattle.systems.specs.CodeList.{code_list}
 use Rattle.systems.specs.Meaning.{Meaning, Lawful, Reading}
-use Rattle.systems.specs.declared.code_list.CodeEntry.{CodeEntry}
+use Rattle.systems.specs.declared.codes.CodeEntry.{CodeEntry}
 
 -- the laws of systems hold of a list of codes where they hold of its system
 pub code_list_lawful : (m : Meaning) (channel : ℕ) (entries : List CodeEntry) (cut : Reading) → Lawful m → Lawful (code_list m channel entries cut)

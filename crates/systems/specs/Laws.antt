@@ -1,19 +1,19 @@
 -- That a stored system is lawful.
 use Rattle.std.specs.Prelude.{◌≡◌, ℕ, ◌<◌, ◌≤◌, Bool, true, cond, ◌&&◌, List, nat_lt}
-use Rattle.std.proofs.Math.Logic.{∥∥₁_elim}
-use Rattle.std.proofs.Math.Bridge.{le_prop}
 use Rattle.std.proofs.Common.{arith}
 use Rattle.std.proofs.lemmas.Bool.{and_parts, and_left, and_right, cond_both, cond-false, cond-true, le-ltb, lt-ltb, ltb-true}
 use Rattle.systems.specs.Meaning.{Lawful}
-use Rattle.systems.specs.Layout.{LaidOut, RowLaidOut, stored, state_count, channel_count, controller_word, environment_word, next_word}
+use Rattle.systems.specs.Layout.{LaidOut, stored, state_count, channel_count, controller_word, environment_word, next_word}
 
 -- an answer that is asked for is bounded, and 0 stands for any other
 capped : (asked : Bool) (x most : ℕ) → (asked ≡ true → x ≤ most) → cond asked x 0 ≤ most
 capped asked x most h = cond_both asked x 0 (λ v. v ≤ most) h (λ _. omega arith)
 
+-- at a state an answer is what it is asked for
 at_state : (w n x : ℕ) → w < n → cond (nat_lt w n) x 0 ≡ x
 at_state w n x h = cond-true (nat_lt w n) x 0 (lt-ltb w n h)
 
+-- the laws of systems hold of what words with the layout hold
 pub stored_lawful : (words : List ℕ) → LaidOut words → Lawful (stored words)
 stored_lawful words ok =
     let n : ℕ = state_count words in
@@ -45,16 +45,3 @@ stored_lawful words ok =
       no_environment_next = λ w a b h.
           cond-false _ (next_word words w a b) 0 (and_right (nat_lt w n) _ (and_right (nat_lt a (p w)) (nat_lt b (q w)) (le-ltb b (q w) h)));
     }
-
--- the layout holds in one way at most, so that it comes out of the ghost field of a stored system
-
-row_laid_out_prop : (words : List ℕ) (w : ℕ) → IsProp (RowLaidOut words w)
-row_laid_out_prop words w x y = λ i.
-    (le_prop x.0 y.0 i, le_prop x.1 y.1 i, le_prop x.2 y.2 i, le_prop x.3 y.3 i, λ a b p q. le_prop (x.4 a b p q) (y.4 a b p q) i)
-
-laid_out_prop : (words : List ℕ) → IsProp (LaidOut words)
-laid_out_prop words x y = λ i.
-    (le_prop x.0 y.0 i, le_prop x.1 y.1 i, le_prop x.2 y.2 i, le_prop x.3 y.3 i, le_prop x.4 y.4 i, λ w l. row_laid_out_prop words w (x.5 w l) (y.5 w l) i)
-
-pub laid_out : (words : List ℕ) → ∥ LaidOut words ∥₁ → LaidOut words
-laid_out words ok = ∥∥₁_elim ok (laid_out_prop words) (λ h. h)

@@ -22,25 +22,31 @@ words_taken n c = row_place c n
 abbrev pub unbiased : ℕ → Reading
 unbiased word = pos word -ℤ pos 32768
 
--- the words of a layout by what they hold
+-- how many states there are
 abbrev pub state_count : List ℕ → ℕ
 state_count words = slice_index words 0
 
+-- how many channels there are
 abbrev pub channel_count : List ℕ → ℕ
 channel_count words = slice_index words 1
 
+-- the word at an offset in the row of state w
 abbrev pub row_word : List ℕ → ℕ → ℕ → ℕ
 row_word words w offset = slice_index words (row_place (channel_count words) w + offset)
 
+-- the word of the reading of channel k at state w
 abbrev pub reading_word : List ℕ → ℕ → ℕ → ℕ
 reading_word words w k = row_word words w k
 
+-- how many moves the controller has at state w
 abbrev pub controller_word : List ℕ → ℕ → ℕ
 controller_word words w = row_word words w (channel_count words)
 
+-- how many moves the environment has at state w
 abbrev pub environment_word : List ℕ → ℕ → ℕ
 environment_word words w = row_word words w (channel_count words + 1)
 
+-- the next state of moves a and b at state w
 abbrev pub next_word : List ℕ → ℕ → ℕ → ℕ → ℕ
 next_word words w a b = row_word words w (channel_count words + 2 + (a * 16 + b))
 

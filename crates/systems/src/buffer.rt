@@ -14,6 +14,8 @@ pub struct Buffer {
 }
 
 impl Buffer {
+    // Moves are numbers and no enum, since a system is asked by number.
+
     /// The controller waits.
     pub const WAIT: u16 = 0;
 
@@ -60,6 +62,7 @@ impl System for Buffer {
         if state >= self.states() || channel >= self.channels() {
             return 0;
         }
+        // a cast of what is at most 255: a `TryFrom` would bring an error that never comes
         state as i16
     }
 

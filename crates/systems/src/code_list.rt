@@ -1,9 +1,10 @@
 //! A list of codes over a system: what a channel shows in place of some readings.
-ghost use Rattle.std.specs.Prelude.{◌≡◌, ◌+◌, ◌<◌, ◌≤◌, [], ◌∷◌, ◌++◌, length, take};
-ghost use Rattle.systems.specs.CodeList.{add_answer, added, code_list, shown, translated};
+ghost use Rattle.std.specs.Prelude.{◌≡◌, [], find, option_copied};
+ghost use Rattle.systems.specs.CodeList.{add_answer, added, code_list, listed, shown, translated};
 ghost use Rattle.systems.specs.Meaning.{same_reading};
 ghost use Rattle.systems.specs.CodeListLaws.{code_list_lawful};
 
+use crate::codes::{CodeEntry, Codes};
 use crate::system::System;
 
 /// The most entries that a list of codes has.
@@ -16,13 +17,6 @@ pub enum CodeFault {
     Full = 26,
 }
 
-/// One code: where the reading is `from`, `to` is shown.
-#[derive(Clone, Copy)]
-struct CodeEntry {
-    from: i16,
-    to: i16,
-}
-
 impl CodeEntry {
     /// Whether the entry is for the reading.
     fn is_for(&self, reading: i16) -> bool
@@ -32,39 +26,24 @@ impl CodeEntry {
     }
 }
 
+/// The first entry for the reading, if there is one.
+fn first_for(entries: &[CodeEntry], reading: i16) -> Option<&CodeEntry>
+    ensures { option_copied result ≡ find (λ code. same_reading code.from reading) entries.now }
+{
+    entries.iter().find(|code| code.is_for(reading))
+}
+
 /// What the first entry for the reading gives, or the reading where there is none.
 fn translated(entries: &[CodeEntry], reading: i16) -> i16
     ensures { result ≡ translated entries.now reading }
 {
-    for code in entries {
-        if code.is_for(reading) {
-            return code.to;
-        }
-    }
-    reading
-}
-
-/// Writes an entry behind the first `count`.
-fn put_behind(entries: &mut [CodeEntry], count: usize, entry: CodeEntry)
-    requires { count < length entries.old }
-    ensures { take (count + 1) entries.new ≡ take count entries.old ++ entry ∷ [] }
-{
-    entries[count] = entry;
-}
-
-/// The entries, of which the first `count` are in use, and the cut.
-#[derive(Clone, Copy)]
-struct Codes {
-    entries: [CodeEntry; MOST_CODES],
-    count: usize,
-    cut: i16,
-    ghost ok: { count ≤ 8 },
+    first_for(entries, reading).map_or(reading, |code| code.to)
 }
 
 impl Codes {
     /// No entries, and the cut.
     fn new(cut: i16) -> Codes
-        ensures entries { take result.count result.entries ≡ [] }
+        ensures entries { listed result ≡ [] }
         ensures cut { result.cut ≡ cut }
     {
         Codes {
@@ -74,34 +53,26 @@ impl Codes {
         }
     }
 
-    /// The entries in use.
-    fn listed(&self) -> &[CodeEntry]
-        ensures entries { result.now ≡ take self.now.count self.now.entries }
-        ensures count { length (take self.now.count self.now.entries) ≡ self.now.count }
-    {
-        &self.entries[0..self.count]
-    }
-
     /// Adds an entry behind the others.
+    #[tactic(auto, using(std::proofs::lemmas::List::take_more_set))]
     fn add(&mut self, entry: CodeEntry) -> Result<(), CodeFault>
-        ensures answer { result ≡ add_answer (take self.old.count self.old.entries) }
-        ensures entries { take self.new.count self.new.entries ≡ added (take self.old.count self.old.entries) entry }
+        ensures answer { result ≡ add_answer (listed self.old) }
+        ensures entries { listed self.new ≡ added (listed self.old) entry }
         ensures cut { self.new.cut ≡ self.old.cut }
     {
-        let count = self.listed().len();
-        if count >= MOST_CODES {
+        if self.count >= MOST_CODES {
             return Err(CodeFault::Full);
         }
-        put_behind(&mut self.entries, count, entry);
-        self.count = count + 1;
+        self.entries[self.count] = entry;
+        self.count += 1;
         Ok(())
     }
 
     /// What is shown for the reading: what the entries make of it, unless that reaches the cut.
     fn shown(&self, reading: i16) -> i16
-        ensures { result ≡ shown (take self.now.count self.now.entries) self.now.cut reading }
+        ensures { result ≡ shown (listed self.now) self.now.cut reading }
     {
-        let code = translated(self.listed(), reading);
+        let code = translated(&self.entries[..self.count], reading);
         if code >= self.cut { 0 } else { code }
     }
 }
@@ -121,7 +92,7 @@ impl<S> CodeList<S> {
     pub fn new(system: S, channel: u8, cut: i16) -> CodeList<S>
         ensures system { result.system ≡ system }
         ensures channel { result.channel ≡ channel }
-        ensures entries { take result.codes.count result.codes.entries ≡ [] }
+        ensures entries { listed result.codes ≡ [] }
         ensures cut { result.codes.cut ≡ cut }
     {
         CodeList {
@@ -133,8 +104,8 @@ impl<S> CodeList<S> {
 
     /// Adds an entry behind the others, or refuses it where there are 8 and changes nothing.
     pub fn add(&mut self, from: i16, to: i16) -> Result<(), CodeFault>
-        ensures answer { result ≡ add_answer (take self.old.codes.count self.old.codes.entries) }
-        ensures entries { take self.new.codes.count self.new.codes.entries ≡ added (take self.old.codes.count self.old.codes.entries) record { from = from; to = to } }
+        ensures answer { result ≡ add_answer (listed self.old.codes) }
+        ensures entries { listed self.new.codes ≡ added (listed self.old.codes) record { from = from; to = to } }
         ensures cut { self.new.codes.cut ≡ self.old.codes.cut }
         ensures channel { self.new.channel ≡ self.old.channel }
         ensures system { self.new.system ≡ self.old.system }
@@ -144,9 +115,9 @@ impl<S> CodeList<S> {
 }
 
 impl<S: System> System for CodeList<S> {
-    ghost meaning = { λ s. code_list (S.System.meaning s.system) s.channel (take s.codes.count s.codes.entries) s.codes.cut };
+    ghost meaning = { λ s. code_list (S.System.meaning s.system) s.channel (listed s.codes) s.codes.cut };
 
-    ghost lawful = { λ s. code_list_lawful (S.System.meaning s.system) s.channel (take s.codes.count s.codes.entries) s.codes.cut (S.System.lawful s.system) };
+    ghost lawful = { λ s. code_list_lawful (S.System.meaning s.system) s.channel (listed s.codes) s.codes.cut (S.System.lawful s.system) };
 
     fn states(&self) -> u16 {
         self.system.states()

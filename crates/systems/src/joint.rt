@@ -1,5 +1,5 @@
 //! Two systems side by side, as one.
-ghost use Rattle.std.specs.Prelude.{◌≡◌};
+ghost use Rattle.std.specs.Prelude.{◌≡◌, ◌/◌, ◌%◌, ◌≤◌};
 ghost use Rattle.systems.specs.Joint.{joint};
 ghost use Rattle.systems.specs.JointLaws.{joint_lawful};
 
@@ -18,9 +18,29 @@ pub struct Joint<A, B> {
 impl<A, B> Joint<A, B> {
     /// The two systems as one.
     pub fn new(first: A, second: B) -> Joint<A, B>
-        ensures { (result.first ≡ first) × (result.second ≡ second) }
+        ensures first { result.first ≡ first }
+        ensures second { result.second ≡ second }
     {
         Joint { first, second }
+    }
+}
+
+/// The two numbers that a pair's number means, where the second is one of so many.
+fn split(pair: u16, seconds: u16) -> (u16, u16)
+    requires { 1 ≤ seconds }
+    ensures first { result.0 ≡ pair / seconds }
+    ensures second { result.1 ≡ pair % seconds }
+{
+    (pair / seconds, pair % seconds)
+}
+
+impl<A, B: System> Joint<A, B> {
+    /// The states of the two systems at a state of the joint.
+    fn halves(&self, state: u16) -> (u16, u16)
+        ensures first { result.0 ≡ state / (B.System.meaning self.now.second).states }
+        ensures second { result.1 ≡ state % (B.System.meaning self.now.second).states }
+    {
+        split(state, self.second.states())
     }
 }
 
@@ -41,12 +61,12 @@ impl<A: System, B: System> System for Joint<A, B> {
         if state >= self.states() || channel >= self.channels() {
             return 0;
         }
-        let split = self.second.states();
+        let (first, second) = self.halves(state);
         let first_channels = self.first.channels();
         if channel < first_channels {
-            self.first.reading(state / split, channel)
+            self.first.reading(first, channel)
         } else {
-            self.second.reading(state % split, channel - first_channels)
+            self.second.reading(second, channel - first_channels)
         }
     }
 
@@ -54,20 +74,20 @@ impl<A: System, B: System> System for Joint<A, B> {
         if state >= self.states() {
             return 0;
         }
-        let split = self.second.states();
+        let (first, second) = self.halves(state);
         self.first
-            .controller_moves(state / split)
-            .saturating_mul(self.second.controller_moves(state % split))
+            .controller_moves(first)
+            .saturating_mul(self.second.controller_moves(second))
     }
 
     fn environment_moves(&self, state: u16) -> u16 {
         if state >= self.states() {
             return 0;
         }
-        let split = self.second.states();
+        let (first, second) = self.halves(state);
         self.first
-            .environment_moves(state / split)
-            .saturating_mul(self.second.environment_moves(state % split))
+            .environment_moves(first)
+            .saturating_mul(self.second.environment_moves(second))
     }
 
     fn next(&self, state: u16, controller: u16, environment: u16) -> u16 {
@@ -76,23 +96,22 @@ impl<A: System, B: System> System for Joint<A, B> {
         {
             return 0;
         }
-        let split = self.second.states();
-        let (first, second) = (state / split, state % split);
-        let controller_split = self.second.controller_moves(second);
-        let environment_split = self.second.environment_moves(second);
-        let first_next = self.first.next(
-            first,
-            controller / controller_split,
-            environment / environment_split,
+        let (first, second) = self.halves(state);
+        let (first_controller, second_controller) = split(
+            controller,
+            self.second.controller_moves(second),
         );
-        let second_next = self.second.next(
-            second,
-            controller % controller_split,
-            environment % environment_split,
+        let (first_environment, second_environment) = split(
+            environment,
+            self.second.environment_moves(second),
         );
-        first_next
-            .saturating_mul(split)
-            .saturating_add(second_next)
+        self.first
+            .next(first, first_controller, first_environment)
+            .saturating_mul(self.second.states())
+            .saturating_add(
+                self.second
+                    .next(second, second_controller, second_environment),
+            )
             .min(self.states() - 1)
     }
 }

@@ -3,10 +3,12 @@
 
 mod buffer;
 mod code_list;
+mod codes;
 mod joint;
 #[cfg(test)]
 mod kinds_tests;
 mod layout;
+mod row;
 mod stored;
 mod system;
 #[cfg(test)]

@@ -1,21 +1,21 @@
 //! A system that lies in words held for reading.
-ghost use Rattle.std.specs.Prelude.{◌≡◌};
-ghost use Rattle.systems.specs.Layout.{LaidOut, stored, stored_words};
-ghost use Rattle.systems.specs.Laws.{laid_out, stored_lawful};
+ghost use Rattle.std.specs.Prelude.{◌≡◌, ◌<◌, ◌≤◌, MatchOption, IfSome, IfSome};
+ghost use Rattle.systems.specs.Layout.{LaidOut, state_count, stored, stored_words};
+ghost use Rattle.systems.specs.Laws.{stored_lawful};
 
-use crate::layout::{
-    CHANNELS_AT, READING_BIAS, STATES_AT, check_layout, controller_word, environment_word,
-    next_word, reading_word,
-};
+use crate::layout::{CHANNELS_AT, READING_BIAS, STATES_AT, check_layout};
+use crate::row::Row;
 use crate::system::System;
 
 /// How many words the resting system takes.
 const RESTING_WORDS: usize = 261;
 
 /// The word that holds reading 0.
+// A cast, since no `From` goes into a constant.
 const ZERO_WORD: u16 = READING_BIAS as u16;
 
 /// The resting system: one state, one channel with reading 0, one move each, next state 0.
+// Written out, since the value of a constant calls nothing.
 #[rattlefmt::skip]
 static RESTING: [u16; RESTING_WORDS] = [
     1, 1, ZERO_WORD, 1, 1,
@@ -41,8 +41,7 @@ static RESTING: [u16; RESTING_WORDS] = [
 #[derive(Clone, Copy)]
 pub struct Stored<'a> {
     words: &'a [u16],
-    // under bars, since a ghost field's fact must be seen to hold in one way at most: `laid_out` takes it out
-    ghost ok: { ∥ LaidOut words.now ∥₁ },
+    ghost ok: { LaidOut words.now },
 }
 
 /// The words, or those of the resting system where these have not the layout.
@@ -65,48 +64,64 @@ impl<'a> Stored<'a> {
             words: words_or_resting(words),
         }
     }
+
+    /// The row of a state, if there is such a state.
+    fn row(&self, state: u16) -> Option<Row<'a>>
+        ensures range { MatchOption result (state_count self.now.words.now ≤ state) (λ _. state < state_count self.now.words.now) }
+        ensures words { IfSome result (λ row. row.words.now ≡ self.now.words.now) }
+        ensures state { IfSome result (λ row. row.state ≡ state) }
+    {
+        // an `if` and no `then`: the invariant of the row rests on the test
+        if state < self.states() {
+            Some(Row {
+                words: self.words,
+                state,
+            })
+        } else {
+            None
+        }
+    }
 }
 
 impl<'a> System for Stored<'a> {
     ghost meaning = { λ s. stored s.words.now };
 
-    ghost lawful = { λ s. stored_lawful s.words.now (laid_out s.words.now s.ok) };
+    ghost lawful = { λ s. stored_lawful s.words.now s.ok };
 
     fn states(&self) -> u16 {
         self.words[STATES_AT]
     }
 
     fn channels(&self) -> u8 {
+        // a cast of what is at most 8: a `TryFrom` would bring an error that never comes
         self.words[CHANNELS_AT] as u8
     }
 
     fn reading(&self, state: u16, channel: u8) -> i16 {
-        if state >= self.states() || channel >= self.channels() {
-            return 0;
+        match self.row(state) {
+            Some(row) if channel < self.channels() => {
+                // a cast of what was 16 bits with a sign
+                (i32::from(row.reading(channel)) - READING_BIAS) as i16
+            }
+            _ => 0,
         }
-        (i32::from(reading_word(self.words, state, channel)) - READING_BIAS) as i16
     }
 
     fn controller_moves(&self, state: u16) -> u16 {
-        if state >= self.states() {
-            return 0;
-        }
-        controller_word(self.words, state)
+        self.row(state).map_or(0, |row| row.controller_moves())
     }
 
     fn environment_moves(&self, state: u16) -> u16 {
-        if state >= self.states() {
-            return 0;
-        }
-        environment_word(self.words, state)
+        self.row(state).map_or(0, |row| row.environment_moves())
     }
 
     fn next(&self, state: u16, controller: u16, environment: u16) -> u16 {
-        if controller >= self.controller_moves(state)
-            || environment >= self.environment_moves(state)
-        {
-            return 0;
+        match self.row(state) {
+            Some(row)
+                if controller < row.controller_moves() && environment < row.environment_moves() => {
+                row.next(controller, environment)
+            }
+            _ => 0,
         }
-        next_word(self.words, state, controller, environment)
     }
 }

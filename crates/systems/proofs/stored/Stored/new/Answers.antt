@@ -5,4 +5,4 @@ use Rattle.systems.specs.Layout.{LaidOut}
 
 pub invariant_of-result : goal.invariant_of-result
 invariant_of-result c =
-    record { ok = ∣ subst LaidOut (sym c.words_or_resting.ensures) (stored_words_laid_out c.args.words.now) ∣₁ }
+    record { ok = subst LaidOut (sym c.words_or_resting.ensures) (stored_words_laid_out c.args.words.now) }

@@ -1,0 +1,110 @@
+//! The row of a state in the words of a stored system.
+ghost use Rattle.std.specs.Prelude.{◌≡◌, ◌<◌, ◌≤◌, Some, None, MatchResult};
+ghost use Rattle.systems.specs.Bounded.{within};
+ghost use Rattle.systems.specs.Layout.{RowHeld, channel_count, controller_word, environment_word, move_fits, next_fits, next_states_fit, next_word, reading_word, row_fault, row_word, row_words};
+
+use crate::layout::{CHANNELS_AT, LayoutFault, MAX_MOVES, MOVES_WORDS, STATES_AT, row_place};
+
+/// The row of a state, and the words that hold it.
+#[derive(Clone, Copy)]
+pub(crate) struct Row<'a> {
+    pub(crate) words: &'a [u16],
+    pub(crate) state: u16,
+    ghost held: { RowHeld words.now state },
+}
+
+/// Whether a side can have so many moves.
+fn is_move_count(count: u16) -> bool
+    ensures { result ≡ within 1 16 count }
+{
+    (1..=MAX_MOVES).contains(&count)
+}
+
+impl Row<'_> {
+    /// The word at an offset in the row.
+    fn word(&self, offset: usize) -> u16
+        requires { offset < row_words (channel_count self.now.words.now) }
+        ensures { result ≡ row_word self.now.words.now self.now.state offset }
+    {
+        self.words[row_place(self.words[CHANNELS_AT], self.state) + offset]
+    }
+
+    /// Where the numbers of moves stand in the row: behind its readings.
+    fn moves_at(&self) -> usize
+        ensures { result ≡ channel_count self.now.words.now }
+    {
+        usize::from(self.words[CHANNELS_AT])
+    }
+
+    /// The word of a reading.
+    pub(crate) fn reading(&self, channel: u8) -> u16
+        requires { channel < channel_count self.now.words.now }
+        ensures { result ≡ reading_word self.now.words.now self.now.state channel }
+    {
+        self.word(usize::from(channel))
+    }
+
+    /// How many moves the controller has.
+    pub(crate) fn controller_moves(&self) -> u16
+        ensures { result ≡ controller_word self.now.words.now self.now.state }
+    {
+        self.word(self.moves_at())
+    }
+
+    /// How many moves the environment has.
+    pub(crate) fn environment_moves(&self) -> u16
+        ensures { result ≡ environment_word self.now.words.now self.now.state }
+    {
+        self.word(self.moves_at() + 1)
+    }
+
+    /// The next state of a pair of moves.
+    pub(crate) fn next(&self, controller: u16, environment: u16) -> u16
+        requires controller { controller < 16 }
+        requires environment { environment < 16 }
+        ensures { result ≡ next_word self.now.words.now self.now.state controller environment }
+    {
+        let pair = usize::from(controller) * usize::from(MAX_MOVES) + usize::from(environment);
+        self.word(self.moves_at() + MOVES_WORDS + pair)
+    }
+
+    /// Whether the next state of a pair of moves is a state.
+    fn next_fits(&self, controller: u16, environment: u16) -> bool
+        requires controller { controller < 16 }
+        requires environment { environment < 16 }
+        ensures { result ≡ next_fits self.now.words.now self.now.state controller environment }
+    {
+        self.next(controller, environment) < self.words[STATES_AT]
+    }
+
+    /// Whether every next state that is used with the controller's move is a state.
+    fn move_fits(&self, controller: u16) -> bool
+        requires controller { controller < 16 }
+        requires environment { environment_word self.now.words.now self.now.state ≤ 16 }
+        ensures { result ≡ move_fits self.now.words.now self.now.state controller }
+    {
+        (0..self.environment_moves()).all(|environment| self.next_fits(controller, environment))
+    }
+
+    /// Whether every next state that is used is a state.
+    fn next_states_fit(&self) -> bool
+        requires controller { controller_word self.now.words.now self.now.state ≤ 16 }
+        requires environment { environment_word self.now.words.now self.now.state ≤ 16 }
+        ensures { result ≡ next_states_fit self.now.words.now self.now.state }
+    {
+        (0..self.controller_moves()).all(|controller| self.move_fits(controller))
+    }
+
+    /// Checks the row: its numbers of moves, and then the next states that are used.
+    pub(crate) fn check(&self) -> Result<(), LayoutFault>
+        ensures { MatchResult result (λ _. row_fault self.now.words.now self.now.state ≡ None) (λ fault. row_fault self.now.words.now self.now.state ≡ Some fault) }
+    {
+        if !is_move_count(self.controller_moves()) || !is_move_count(self.environment_moves()) {
+            return Err(LayoutFault::Moves);
+        }
+        if !self.next_states_fit() {
+            return Err(LayoutFault::NextState);
+        }
+        Ok(())
+    }
+}
