@@ -6,10 +6,11 @@ ghost use Rattle.codec.specs.Number.{number, value_and_rest, encoded, put_answer
 const HIGH_BIT: u8 = 128;
 
 /// What one is worth in the second group.
-const SECOND_GROUP: u16 = 128;
+// A cast, since no `From` goes into a constant.
+const SECOND_GROUP: u16 = HIGH_BIT as u16;
 
 /// What one is worth in the third group.
-const THIRD_GROUP: u16 = 16_384;
+const THIRD_GROUP: u16 = SECOND_GROUP * SECOND_GROUP;
 
 /// The least third group that takes a number above 65,535.
 const THIRD_GROUP_END: u8 = 4;
@@ -36,6 +37,7 @@ pub enum WriteFault {
 pub fn read_number(bytes: &[u8]) -> Result<(u16, &[u8]), NumberFault>
     ensures { value_and_rest result ≡ number bytes.now }
 {
+    // by a rule of this project slice patterns take the groups off, one by one
     let [first, rest @ ..] = bytes else {
         return Err(NumberFault::Ends);
     };
@@ -83,6 +85,7 @@ pub fn write_number(value: u16, bytes: &mut [u8]) -> Result<usize, WriteFault>
     ensures reads_back { IfOk result (λ count. number bytes.new ≡ Ok (value, drop count bytes.old)) }
     ensures fewest { IfOk result (λ count. NoneShorter value count) }
 {
+    // casts of what is below 128: a `TryFrom` would bring an error that never comes
     let low = (value % SECOND_GROUP) as u8;
     let middle = (value / SECOND_GROUP % SECOND_GROUP) as u8;
     let high = (value / THIRD_GROUP) as u8;
@@ -104,6 +107,7 @@ fn put(encoding: &[u8], bytes: &mut [u8]) -> Result<usize, WriteFault>
     if bytes.len() < count {
         return Err(WriteFault::TooFewBytes);
     }
-    bytes[0..count].copy_from_slice(encoding);
+    // a test and a range: after a write through what `get_mut` gives, a proof knows no byte any more
+    bytes[..count].copy_from_slice(encoding);
     Ok(count)
 }

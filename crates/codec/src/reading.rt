@@ -7,6 +7,7 @@ pub fn file_reading(reading: i16) -> u16
     ensures answer { result ≡ filed reading }
     ensures inverse { unfiled result ≡ reading }
 {
+    // casts of what fits: a `TryFrom` would bring an error that never comes
     let doubled = 2 * i32::from(reading);
     if reading < 0 {
         (-doubled - 1) as u16
@@ -16,10 +17,12 @@ pub fn file_reading(reading: i16) -> u16
 }
 
 /// The reading that the number files.
+#[tactic(auto, using(std::proofs::lemmas::Int::ints, std::proofs::lemmas::Bool::Decides::nat_tests, crate::proofs::Filed::filed_back))]
 pub fn unfile_reading(number: u16) -> i16
     ensures answer { result ≡ unfiled number }
     ensures inverse { filed result ≡ number }
 {
+    // a cast of what is at most 32,767: a `TryFrom` would bring an error that never comes
     let half = (number / 2) as i16;
     if number % 2 == 0 { half } else { -half - 1 }
 }

@@ -1,8 +1,9 @@
 -- In a table of ends that ascends, a height lies between the ends that its count below picks out.
-use Rattle.std.proofs.Common.{◌≡◌, ℕ, zero, suc, ◌+◌, ◌-◌, ◌<◌, ◌≤◌, Bool, true, ◌&&◌, List, [], ◌∷◌, length, get_or, pos, ◌≤ℤ◌, ◌<ℤ◌, refl, sub-one, one-add, arith}
+use Rattle.std.proofs.Common.{◌≡◌, ℕ, zero, suc, ◌+◌, ◌-◌, ◌<◌, ◌≤◌, Bool, true, ◌&&◌, List, [], ◌∷◌, length, get_or, count_by, cond, pos, ◌≤ℤ◌, ◌<ℤ◌, refl, ap, ◌∙◌, sub-one, one-add, arith}
 use lib.Signed.{lt_z}
 use Rattle.std.proofs.lemmas.Int.{ints}
 use Rattle.std.proofs.lemmas.Bool.{and_parts, cond_both}
+use Rattle.std.proofs.lemmas.List.Sums.{sum_by-cons}
 use Rattle.systems.specs.Meaning.{Reading}
 use Rattle.likeness.specs.SeaState.{InClass, class_ends, class_of, ends_below}
 
@@ -56,3 +57,8 @@ placed (end ∷ ends) h up =
 pub in_class : (h : Reading) → InClass h (class_of h)
 unfolding class_of
 in_class h = let p = placed class_ends h refl in record { a_class = p.0; up_to = p.1; above = p.2 }
+
+-- the count of the ends below a height, as a count of those that pass the test
+pub counted : (ends : List Reading) (h : Reading) → count_by (λ end. lt_z end h) ends ≡ ends_below h ends
+counted [] h = refl
+counted (end ∷ ends) h = sum_by-cons (λ e. cond (lt_z e h) 1 0) end ends ∙ ap (λ n. cond (lt_z end h) 1 0 + n) (counted ends h)

@@ -55,11 +55,10 @@ impl Within {
     pub fn tolerance(&self, channel: u8) -> u16
         ensures { result ≡ tolerance_of self.now.tolerances channel }
     {
-        if usize::from(channel) < TOLERANCE_CHANNELS {
-            self.tolerances[usize::from(channel)]
-        } else {
-            0
-        }
+        self.tolerances
+            .get(usize::from(channel))
+            .copied()
+            .unwrap_or(0)
     }
 
     /// Sets the tolerance of the channel, and of no other. A refused call changes nothing.
@@ -68,6 +67,7 @@ impl Within {
         ensures after { self.new.tolerances ≡ tolerances_after self.old.tolerances channel tolerance }
     {
         check_tolerance(channel, tolerance)?;
+        // by index: after a write through what `get_mut` gives, a proof knows no element any more
         self.tolerances[usize::from(channel)] = tolerance;
         Ok(())
     }
