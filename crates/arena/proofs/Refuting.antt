@@ -49,9 +49,6 @@ some_refutes A gone w v (suc a) =
     ∙ ap (λ b. b || is_some (least_refuting A gone w v 0 a)) (some_if (leb 0 a && refutes A gone w v a) a ∙ ap (λ b. b && refutes A gone w v a) (le-leb 0 a (omega arith)))
     ∙ ap (λ b. refutes A gone w v a || b) (some_refutes A gone w v a)
 
-pub faulty_is : (A : Arena) (gone : Relation) (w v : ℕ) (r : Bool) → A.alike w v ≡ true → r ≡ is_some (least_refuting A gone w v 0 (A.old_controller_moves w)) → r ≡ faulty A gone w v
-faulty_is A gone w v r h e = e ∙ some_refutes A gone w v (A.old_controller_moves w) ∙ sym (ap (λ b. not b || refuted A gone w v) h)
-
 -- a search of one move
 pub one_refutes : (A : Arena) (gone : Relation) (w v a : ℕ) → is_some (least_refuting A gone w v a (a + 1)) ≡ refutes A gone w v a
 one_refutes A gone w v a =

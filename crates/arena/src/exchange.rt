@@ -7,46 +7,32 @@ use likeness::Likeness;
 use systems::{MAX_CHANNELS, System};
 
 /// The exchange of an old system for a new one: both lent, with the likeness that compares their readings.
-#[derive(Clone, Copy)]
+#[derive_where(Clone, Copy)]
 pub struct Exchange<'a, S, T, L> {
     pub old: &'a S,
     pub new: &'a T,
     pub likeness: &'a L,
 }
 
-/// Whether the old state and the new one are alike on the channel.
-fn alike_on<S: System, T: System, L: Likeness>(
-    old: &S,
-    new: &T,
-    likeness: &L,
-    pair: (u16, u16),
-    channel: u8,
-) -> bool
-    ensures { result ≡ L.Likeness.relation likeness.now channel ((S.System.meaning old.now).reading pair.0 channel) ((T.System.meaning new.now).reading pair.1 channel) }
-{
-    let (old_state, new_state) = pair;
-    likeness.alike(
-        channel,
-        old.reading(old_state, channel),
-        new.reading(new_state, channel),
-    )
-}
-
-/// Whether the old state and the new one are alike on every channel of the old system.
-fn alike_on_all<S: System, T: System, L: Likeness>(
-    old: &S,
-    new: &T,
-    likeness: &L,
-    pair: (u16, u16),
-) -> bool
-    ensures { result ≡ alike_on_all (S.System.meaning old.now) (T.System.meaning new.now) (L.Likeness.relation likeness.now) pair.0 pair.1 }
-{
-    for channel in 0..old.channels() {
-        if !alike_on(old, new, likeness, pair, channel) {
-            return false;
-        }
+impl<S: System, T: System, L: Likeness> Exchange<'_, S, T, L> {
+    /// Whether the old state and the new one are alike on the channel.
+    fn alike_on(&self, pair: (u16, u16), channel: u8) -> bool
+        ensures { result ≡ L.Likeness.relation self.now.likeness.now channel ((S.System.meaning self.now.old.now).reading pair.0 channel) ((T.System.meaning self.now.new.now).reading pair.1 channel) }
+    {
+        let (old_state, new_state) = pair;
+        self.likeness.alike(
+            channel,
+            self.old.reading(old_state, channel),
+            self.new.reading(new_state, channel),
+        )
     }
-    true
+
+    /// Whether the old state and the new one are alike on every channel of the old system.
+    fn alike_on_all(&self, pair: (u16, u16)) -> bool
+        ensures { result ≡ alike_on_all (S.System.meaning self.now.old.now) (T.System.meaning self.now.new.now) (L.Likeness.relation self.now.likeness.now) pair.0 pair.1 }
+    {
+        (0..self.old.channels()).all(|channel| self.alike_on(pair, channel))
+    }
 }
 
 impl<S: System, T: System, L: Likeness> Arena for Exchange<'_, S, T, L> {
@@ -67,7 +53,7 @@ impl<S: System, T: System, L: Likeness> Arena for Exchange<'_, S, T, L> {
     }
 
     fn alike(&self, pair: (u16, u16)) -> bool {
-        alike_on_all(self.old, self.new, self.likeness, pair)
+        self.alike_on_all(pair)
     }
 
     fn old_controller_moves(&self, state: u16) -> u16 {

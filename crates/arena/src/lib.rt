@@ -2,13 +2,14 @@
 #![tactic(auto)]
 
 mod arena;
+mod board;
 mod cause;
 mod exchange;
 mod refutation;
 mod table;
 
 pub use arena::Arena;
+pub use board::Board;
 pub use cause::Cause;
 pub use exchange::Exchange;
-pub use refutation::{cause_of, is_in_order, is_loose, least_refuting_move};
-pub use table::{STANDING, entry_of, number_of_pairs, start_stands};
+pub use table::{STANDING, entry_of, number_of_pairs, place_of};
