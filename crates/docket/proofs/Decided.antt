@@ -237,20 +237,10 @@ swept_out_from A (suc most) x =
       entries = rest.entries ∙ first.entries;
     })
 
--- a sweep keeps a docket in use
-pub swept_in_use : (A : Arena) (x : Position) (y : Swept) → SweptFrom x y → use_refusal A y.position ≡ use_refusal A x
-swept_in_use A x y h =
-    λ i. cond (not (h.is_open i)) (Some ClosedDocket)
-    (cond (not (eqb (h.old_states i) A.old_states && eqb (h.new_states i) A.new_states)) (Some OtherSizes)
-    (misfit A (h.entries i)))
-
 -- One round of full sweeps: from x a sweep leads to y and makes m strikes, behind t that were made before.
 module _ (A : Arena) (x y : Position) (m t : ℕ) (e : record { position = y; made = m } ≡ swept A x full_budget) where
   pub round_from : SweptFrom x (record { position = y; made = m })
   round_from = subst (λ z. SweptFrom x z) (sym e) (swept_from A x full_budget)
-
-  pub round_in_use : use_refusal A x ≡ None → use_refusal A y ≡ None
-  round_in_use h = swept_in_use A x (record { position = y; made = m }) round_from ∙ h
 
   -- there are strikes to come
   pub round_goes_on : (all : Swept) → (m ≡ 0 → ⊥) → with_earlier t (swept_out A (pairs A) x) ≡ all → with_earlier (t + m) (swept_out A (pairs A) y) ≡ all

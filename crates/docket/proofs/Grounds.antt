@@ -1,6 +1,6 @@
 -- What it takes for a call not to be refused.
 use Rattle.std.proofs.Common.{◌≡◌, ℕ, ◌<◌, ◌≤◌, Bool, true, false, cond, not, ◌&&◌, eqb, ltb, leb, List, length, Some, None, Option, refl, ap, ◌∙◌, arith}
-use Rattle.std.proofs.lemmas.Bool.{and_from, and_parts, cond-false, cond-true, eq-eqb, leb-false, lt-leb, lt-ltb, ltb-false, ltb-true, not-false, not_from_false, not_from_true, or_left, or_right}
+use Rattle.std.proofs.lemmas.Bool.{and_from, and_parts, cond-false, cond-true, eq-eqb, eqb-true, leb-false, lt-leb, lt-ltb, ltb-false, ltb-true, not-false, not_from_false, not_from_true, or_left, or_right}
 use Rattle.systems.proofs.Bounded.{or_else_none}
 use Rattle.systems.specs.Bounded.{or_else}
 use Rattle.arena.proofs.Bounds.{any_below_from}
@@ -12,8 +12,9 @@ use Rattle.arena.specs.declared.cause.Cause.{Cause}
 use Rattle.arena.specs.declared.cause.Cause.TheVariants.{Sight, Move}
 use Rattle.docket.specs.Position.{Position, opened}
 use Rattle.docket.specs.Refusals.{cause_refusal, few_moves_in_both, if_granted, misfit, opening_refusal, pair_refusal, too_many_states, use_refusal}
+use Rattle.docket.specs.Use.{InUse}
 use Rattle.docket.specs.declared.refusal.Refusal.{Refusal}
-use Rattle.docket.specs.declared.refusal.Refusal.TheVariants.{TooManyStates, NotComparable, TooManyMoves, TableTooShort, OtherSizes, NoSuchState, AlreadyStruck, NoSuchMove, Alike, NotRefuted, Full}
+use Rattle.docket.specs.declared.refusal.Refusal.TheVariants.{TooManyStates, NotComparable, TooManyMoves, TableTooShort, Closed, OtherSizes, NoSuchState, AlreadyStruck, NoSuchMove, Alike, NotRefuted, Full}
 
 -- a test in a row of tests
 module _ {X : Type 0} (b : Bool) (r : X) (o : Option X) where
@@ -42,6 +43,20 @@ pub opened_in_use : (A : Arena) (x : Position) → misfit A (length (opened A x)
 opened_in_use A x h =
     pass (not (eqb A.old_states A.old_states && eqb A.new_states A.new_states)) OtherSizes (misfit A (length (opened A x).table))
     (not_from_true (eqb A.old_states A.old_states && eqb A.new_states A.new_states) (and_from (eqb A.old_states A.old_states) (eqb A.new_states A.new_states) (eq-eqb A.old_states A.old_states refl) (eq-eqb A.new_states A.new_states refl))) h
+
+-- what use a docket is of that is not refused
+pub in_use : (A : Arena) (x : Position) → use_refusal A x ≡ None → InUse A x
+in_use A x h =
+    let shut = passed (not x.docket.is_open) Closed _ h in
+    let same = eqb x.docket.old_states A.old_states && eqb x.docket.new_states A.new_states in
+    let other = passed (not same) OtherSizes _ shut.1 in
+    let sizes = and_parts (eqb x.docket.old_states A.old_states) (eqb x.docket.new_states A.new_states) (not-false same other.0) in
+    record {
+      is_open = not-false x.docket.is_open shut.0;
+      old_states = eqb-true x.docket.old_states A.old_states sizes.0;
+      new_states = eqb-true x.docket.new_states A.new_states sizes.1;
+      room = fitting_room A (length x.table) other.1;
+    }
 
 -- What a docket in use grants a strike on.
 pub record Grounds (A : Arena) (x : Position) (w v : ℕ) (cause : Cause) : Type 0 where

@@ -12,7 +12,7 @@ use Rattle.arena.specs.Table.{cause_of, faulty, in_order, number_standing, stand
 use Rattle.arena.specs.declared.cause.Cause.{Cause}
 use Rattle.docket.proofs.Good.{Good, good_after_opening, good_count}
 use Rattle.docket.proofs.Grounds.{found_caused, grants}
-use Rattle.docket.specs.Certificate.{Certifies, accepted_unless, certificate, certificate_says, first_fault, first_fault_in, pair_fault, refused}
+use Rattle.docket.specs.Certificate.{Certifies, certificate, certificate_says, first_fault, first_fault_in, pair_fault, refused}
 use Rattle.docket.specs.Law.{CertificateLaw, RunLaw, SettleTells, SettledRight, Sound}
 use Rattle.docket.specs.Position.{Position}
 use Rattle.docket.specs.Refusals.{opening_refusal, pair_refusal, strike_refusal, unless}
@@ -88,14 +88,14 @@ faultless A t h =
 -- a table whose standing pairs are settled is accepted
 pub settled_accepted : (A : Arena) (t : List ℕ) → opening_refusal A (length t) ≡ None → Ordered A t → Calm A t → certificate_says A t ≡ Ok (certificate A t)
 settled_accepted A t h o q =
-    ap (λ r. accepted_unless (or_else (refused r) (first_fault A t)) (certificate A t)) h
-    ∙ ap (λ f. accepted_unless f (certificate A t)) (none_faulty A t o q)
+    ap (λ r. unless (or_else (refused r) (first_fault A t)) (certificate A t)) h
+    ∙ ap (λ f. unless f (certificate A t)) (none_faulty A t o q)
 
 -- the law of certificate checks
 pub certificate_law : (A : Arena) → Closed A → CertificateLaw A
 certificate_law A c t = by (or_else (refused (opening_refusal A (length t))) (first_fault A t)) refl
   where
-    by : (o : Option CertificateFault) → or_else (refused (opening_refusal A (length t))) (first_fault A t) ≡ o → Certifies A t (accepted_unless o (certificate A t))
+    by : (o : Option CertificateFault) → or_else (refused (opening_refusal A (length t))) (first_fault A t) ≡ o → Certifies A t (unless o (certificate A t))
     by None e =
         let both = faultless A t (or_else_none (refused (opening_refusal A (length t))) (first_fault A t) e).1 in
         let large = largest A c t both.0 both.1 in

@@ -1,7 +1,7 @@
 pub mod Decided
-pub mod Fits
 pub mod Good
 pub mod Grounds
 pub mod Laws
+pub mod Refused
 pub mod Runs
 pub mod Steps

@@ -33,14 +33,3 @@ after_all A calls i x y l e = sym (at_drop_all (λ cs. after A y cs) calls i l) 
 
 pub answers_all : (A : Arena) (calls : List Call) (i : ℕ) (x : Position) (given all : List (Result Grant Refusal)) → length calls ≤ i → given ++ answers A x (drop i calls) ≡ all → given ≡ all
 answers_all A calls i x given all l e = sym (append-nil given) ∙ sym (at_drop_all (λ cs. given ++ answers A x cs) calls i l) ∙ e
-
--- one strike more as a call
-pub proposals_next : (strikes : List Strike) (i : ℕ) (any : Strike) (given more : List Call) → i < length strikes → given ≡ proposals (take i strikes) → more ≡ given ++ Strikes (get_or strikes i any) ∷ [] → more ≡ proposals (take (i + 1) strikes)
-proposals_next strikes i any given more l h e =
-    e
-    ∙ ap (λ cs. cs ++ Strikes (get_or strikes i any) ∷ []) h
-    ∙ sym (ap (λ ss. proposals ss) (take_more strikes i any l) ∙ map-append (λ s. Strikes s) (take i strikes) (get_or strikes i any ∷ []))
-
--- and all of them
-pub proposals_all : (strikes : List Strike) (i : ℕ) (given : List Call) → length strikes ≤ i → given ≡ proposals (take i strikes) → given ≡ proposals strikes
-proposals_all strikes i given l h = h ∙ ap (λ ss. proposals ss) (take_all i strikes l)

@@ -4,7 +4,7 @@ use Rattle.systems.specs.Bounded.{first_below, or_else}
 use Rattle.arena.specs.Arena.{Arena}
 use Rattle.arena.specs.Pairs.{Largest, Replaces}
 use Rattle.arena.specs.Table.{in_order, number_standing, standing, stands, start_stands}
-use Rattle.docket.specs.Refusals.{opening_refusal, refusal_number}
+use Rattle.docket.specs.Refusals.{opening_refusal, refusal_number, unless}
 use Rattle.docket.specs.declared.certificate.Certificate.{Certificate}
 use Rattle.docket.specs.declared.certificate.CertificateFault.{CertificateFault}
 use Rattle.docket.specs.declared.certificate.CertificateFault.TheVariants.{Refused, Unfounded, Loose}
@@ -31,14 +31,9 @@ refused (Some refusal) = Some (Refused refusal)
 abbrev pub certificate : Arena → List ℕ → Certificate
 certificate A table = record { standing = number_standing A table; replaces = start_stands A table }
 
--- accepted, unless there is a fault
-abbrev pub accepted_unless : Option CertificateFault → Certificate → Result Certificate CertificateFault
-accepted_unless None c = Ok c
-accepted_unless (Some fault) c = Err fault
-
 -- what a certificate check answers
 abbrev pub certificate_says : Arena → List ℕ → Result Certificate CertificateFault
-certificate_says A table = accepted_unless (or_else (refused (opening_refusal A (length table))) (first_fault A table)) (certificate A table)
+certificate_says A table = unless (or_else (refused (opening_refusal A (length table))) (first_fault A table)) (certificate A table)
 
 -- what an answer tells of the table: only one whose standing pairs are the largest simulation is accepted, and then it tells whether the new system replaces the old
 abbrev pub Certifies : Arena → List ℕ → Result Certificate CertificateFault → Type 0

@@ -8,3 +8,4 @@ pub mod Seen
 pub mod Settle
 pub mod Strikes
 pub mod Sweep
+pub mod Use

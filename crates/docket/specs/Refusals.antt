@@ -76,7 +76,7 @@ abbrev pub strike_refusal : Arena → Position → Strike → Option Refusal
 strike_refusal A x s = or_else (use_refusal A x) (pair_refusal A x s.pair.0 s.pair.1 s.cause)
 
 -- the answer of a call, refused or granted
-abbrev pub unless : {X : Type 0} → Option Refusal → X → Result X Refusal
+abbrev pub unless : {E X : Type 0} → Option E → X → Result X E
 unless (Some refusal) answer = Err refusal
 unless None answer = Ok answer
 

@@ -1,11 +1,13 @@
 //! The certificate check: whether a table, whoever wrote it, shows the largest simulation.
 ghost use Rattle.std.specs.Prelude.{◌≡◌};
-ghost use Rattle.docket.specs.Certificate.{Certifies, certificate_says, fault_number, first_fault, first_fault_in, pair_fault};
+ghost use Rattle.docket.specs.Certificate.{Certifies, certificate_says, fault_number, first_fault, pair_fault};
+ghost use Rattle.docket.specs.Refusals.{unless};
+ghost use Rattle.docket.specs.declared.certificate.CertificateFault.TheVariants.{Refused};
 
-use crate::fit::opening_refusal;
+use crate::fit::check_opening;
 use crate::refusal::Refusal;
 use crate::table::number_standing;
-use arena::{Arena, STANDING, entry_of, is_in_order, start_stands};
+use arena::{Arena, Board, STANDING};
 
 /// What a table that is accepted shows.
 #[derive(Clone, Copy, Debug, PartialEq, Eq)]
@@ -15,6 +17,8 @@ pub struct Certificate {
     /// Whether the pair of start states stands: the new system then replaces the old.
     pub replaces: bool,
 }
+
+// Constants, since an enum whose cases carry values gives no numbers to them.
 
 /// The number of a struck pair out of order.
 const UNFOUNDED: u8 = 13;
@@ -46,56 +50,49 @@ impl CertificateFault {
     }
 }
 
-/// The fault of the pair, if it is out of order.
-fn pair_fault<A: Arena>(arena: &A, table: &[u32], pair: (u16, u16)) -> Option<CertificateFault>
-    ensures { result ≡ pair_fault (A.Arena.view arena.now) table.now pair.0 pair.1 }
+impl From<Refusal> for CertificateFault {
+    ghost from_gives = { λ refusal r. r ≡ Refused refusal };
+
+    fn from(refusal: Refusal) -> CertificateFault {
+        CertificateFault::Refused(refusal)
+    }
+}
+
+/// Checks that the pair is in order.
+fn check_pair<A: Arena>(board: &Board<'_, A>, pair: (u16, u16)) -> Result<(), CertificateFault>
+    ensures { result ≡ unless (pair_fault (A.Arena.view board.now.arena.now) board.now.table.now pair.0 pair.1) tt }
 {
-    if is_in_order(arena, table, pair) {
-        None
-    } else if entry_of(table, arena.new_states(), pair) == STANDING {
-        Some(CertificateFault::Loose(pair))
+    if board.is_in_order(pair) {
+        return Ok(());
+    }
+    if board.entry(pair) == STANDING {
+        Err(CertificateFault::Loose(pair))
     } else {
-        Some(CertificateFault::Unfounded(pair))
+        Err(CertificateFault::Unfounded(pair))
     }
 }
 
-/// The fault of an old state's first pair out of order.
-fn first_fault_in<A: Arena>(arena: &A, table: &[u32], row: u16) -> Option<CertificateFault>
-    ensures { result ≡ first_fault_in (A.Arena.view arena.now) table.now row (A.Arena.view arena.now).new_states }
+/// Checks that every pair is in order, in the order of their places.
+fn check_pairs<A: Arena>(board: &Board<'_, A>) -> Result<(), CertificateFault>
+    ensures { result ≡ unless (first_fault (A.Arena.view board.now.arena.now) board.now.table.now) tt }
 {
-    for column in 0..arena.new_states() {
-        if let Some(fault) = pair_fault(arena, table, (row, column)) {
-            return Some(fault);
+    for row in 0..board.arena.old_states() {
+        for column in 0..board.arena.new_states() {
+            check_pair(board, (row, column))?;
         }
     }
-    None
-}
-
-/// The fault of the first pair out of order.
-fn first_fault<A: Arena>(arena: &A, table: &[u32]) -> Option<CertificateFault>
-    ensures { result ≡ first_fault (A.Arena.view arena.now) table.now }
-{
-    for row in 0..arena.old_states() {
-        if let Some(fault) = first_fault_in(arena, table, row) {
-            return Some(fault);
-        }
-    }
-    None
+    Ok(())
 }
 
 /// Tests the systems and the table, then the pairs in turn.
-fn examine<A: Arena>(arena: &A, table: &[u32]) -> Result<Certificate, CertificateFault>
-    ensures { result ≡ certificate_says (A.Arena.view arena.now) table.now }
+fn examine<A: Arena>(board: &Board<'_, A>) -> Result<Certificate, CertificateFault>
+    ensures { result ≡ certificate_says (A.Arena.view board.now.arena.now) board.now.table.now }
 {
-    if let Some(refusal) = opening_refusal(arena, table.len()) {
-        return Err(CertificateFault::Refused(refusal));
-    }
-    if let Some(fault) = first_fault(arena, table) {
-        return Err(fault);
-    }
+    check_opening(board.arena, board.table.len())?;
+    check_pairs(board)?;
     Ok(Certificate {
-        standing: number_standing(arena, table),
-        replaces: start_stands(arena, table),
+        standing: number_standing(board),
+        replaces: board.start_stands(),
     })
 }
 
@@ -109,5 +106,5 @@ pub fn check_certificate<A: Arena>(
     ensures answer { result ≡ certificate_says (A.Arena.view arena.now) table.now }
     ensures law { Certifies (A.Arena.view arena.now) table.now result }
 {
-    examine(arena, table)
+    examine(&Board { arena, table })
 }

@@ -1,6 +1,6 @@
 //! What a decision tells.
 ghost use Rattle.std.specs.Prelude.{◌≡◌};
-ghost use Rattle.docket.specs.declared.decision.DecideError.TheVariants.{NoMemory};
+ghost use Rattle.docket.specs.declared.decision.DecideError.TheVariants.{NoMemory, Refused};
 
 use crate::call::Grant;
 use crate::refusal::Refusal;
@@ -20,6 +20,7 @@ pub struct Decision {
 }
 
 /// Why nothing was decided.
+// Beside `DescribeError` of `description`, and no generic error for both: the two crates have none below them that it could stand in.
 #[derive(Clone, Copy, Debug, PartialEq, Eq, Drop)]
 pub enum DecideError {
     /// The opening is refused.
@@ -33,5 +34,13 @@ impl From<AllocError> for DecideError {
 
     fn from(_: AllocError) -> DecideError {
         DecideError::NoMemory
+    }
+}
+
+impl From<Refusal> for DecideError {
+    ghost from_gives = { λ refusal r. r ≡ Refused refusal };
+
+    fn from(refusal: Refusal) -> DecideError {
+        DecideError::Refused(refusal)
     }
 }

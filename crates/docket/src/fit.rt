@@ -1,73 +1,66 @@
 //! Whether two systems and a table serve a docket.
-ghost use Rattle.std.specs.Prelude.{◌≡◌, ◌≤◌, ◌&&◌, None, nat_le};
+ghost use Rattle.std.specs.Prelude.{◌≡◌, ◌≤◌, ℕ, OnOk};
 ghost use Rattle.arena.specs.Table.{pairs};
-ghost use Rattle.docket.specs.Refusals.{few_moves, few_moves_in_both, misfit, opening_refusal};
+ghost use Rattle.docket.specs.Refusals.{few_moves, few_moves_in_both, misfit, opening_refusal, unless};
 
 use crate::refusal::Refusal;
 use arena::{Arena, number_of_pairs};
 use systems::{MAX_MOVES, MAX_STATES};
 
-/// Whether both sides have few enough moves.
-fn are_few(controller: u16, environment: u16) -> bool
-    ensures { result ≡ (nat_le controller 16 && nat_le environment 16) }
+/// Whether no side has too many moves at any of so many states, where `moves_at` gives the controller's and the environment's.
+fn have_few_moves<F: Fn(u16) -> (u16, u16)>(states: u16, moves_at: F) -> bool
+    requires { F.IsAlwaysCallable moves_at }
+    ensures { (controller environment : ℕ → ℕ) → ((w : ℕ) (moves : ℕ × ℕ) → F.post moves_at w moves → moves ≡ (controller w, environment w)) → result ≡ few_moves states controller environment }
 {
-    controller <= MAX_MOVES && environment <= MAX_MOVES
+    (0..states).all(|state| {
+        let (controller, environment) = moves_at(state);
+        controller <= MAX_MOVES && environment <= MAX_MOVES
+    })
 }
 
-/// Whether no side has too many moves at any state of the old system.
-fn few_old_moves<A: Arena>(arena: &A) -> bool
-    ensures { result ≡ few_moves (A.Arena.view arena.now).old_states (A.Arena.view arena.now).old_controller_moves (A.Arena.view arena.now).old_environment_moves }
+/// Whether no side of either system has too many moves at any state.
+fn have_few_moves_in_both<A: Arena>(arena: &A) -> bool
+    ensures { result ≡ few_moves_in_both (A.Arena.view arena.now) }
 {
-    for state in 0..arena.old_states() {
-        if !are_few(
+    have_few_moves(arena.old_states(), |state| {
+        (
             arena.old_controller_moves(state),
             arena.old_environment_moves(state),
-        ) {
-            return false;
-        }
-    }
-    true
-}
-
-/// Whether no side has too many moves at any state of the new system.
-fn few_new_moves<A: Arena>(arena: &A) -> bool
-    ensures { result ≡ few_moves (A.Arena.view arena.now).new_states (A.Arena.view arena.now).new_controller_moves (A.Arena.view arena.now).new_environment_moves }
-{
-    for state in 0..arena.new_states() {
-        if !are_few(
+        )
+    }) && have_few_moves(arena.new_states(), |state| {
+        (
             arena.new_controller_moves(state),
             arena.new_environment_moves(state),
-        ) {
-            return false;
-        }
-    }
-    true
+        )
+    })
 }
 
-/// Why the systems and a table of so many entries do not serve, whatever their sizes.
-pub(crate) fn misfit<A: Arena>(arena: &A, entries: usize) -> Option<Refusal>
-    ensures answer { result ≡ misfit (A.Arena.view arena.now) entries }
-    ensures fits { result ≡ None → pairs (A.Arena.view arena.now) ≤ entries }
+/// Checks that the systems and a table of so many entries serve, whatever the systems' sizes.
+pub(crate) fn check_fit<A: Arena>(arena: &A, entries: usize) -> Result<(), Refusal>
+    ensures answer { result ≡ unless (misfit (A.Arena.view arena.now) entries) tt }
+    ensures space { OnOk result (pairs (A.Arena.view arena.now) ≤ entries) }
 {
     if !arena.comparable() {
-        return Some(Refusal::NotComparable);
+        return Err(Refusal::NotComparable);
     }
-    if !(few_old_moves(arena) && few_new_moves(arena)) {
-        return Some(Refusal::TooManyMoves);
+    if !have_few_moves_in_both(arena) {
+        return Err(Refusal::TooManyMoves);
     }
     if entries < number_of_pairs(arena) {
-        return Some(Refusal::TableTooShort);
+        return Err(Refusal::TableTooShort);
     }
-    None
+    Ok(())
 }
 
-/// Why an opening for the systems, with a table of so many entries, is refused.
-pub fn opening_refusal<A: Arena>(arena: &A, entries: usize) -> Option<Refusal>
-    ensures answer { result ≡ opening_refusal (A.Arena.view arena.now) entries }
-    ensures fits { result ≡ None → ((A.Arena.view arena.now).old_states ≤ 256) × ((A.Arena.view arena.now).new_states ≤ 256) × (pairs (A.Arena.view arena.now) ≤ entries) }
+/// Checks that a docket can be opened for the systems, with a table of so many entries.
+pub fn check_opening<A: Arena>(arena: &A, entries: usize) -> Result<(), Refusal>
+    ensures answer { result ≡ unless (opening_refusal (A.Arena.view arena.now) entries) tt }
+    ensures old { OnOk result ((A.Arena.view arena.now).old_states ≤ 256) }
+    ensures new { OnOk result ((A.Arena.view arena.now).new_states ≤ 256) }
+    ensures space { OnOk result (pairs (A.Arena.view arena.now) ≤ entries) }
 {
     if arena.old_states() > MAX_STATES || arena.new_states() > MAX_STATES {
-        return Some(Refusal::TooManyStates);
+        return Err(Refusal::TooManyStates);
     }
-    misfit(arena, entries)
+    check_fit(arena, entries)
 }

@@ -14,6 +14,6 @@ pub use call::{Call, Grant};
 pub use certificate::{Certificate, CertificateFault, check_certificate};
 pub use decision::{DecideError, Decision};
 pub use docket::Docket;
-pub use fit::opening_refusal;
+pub use fit::check_opening;
 pub use refusal::Refusal;
 pub use strike::{Settlement, Strike};

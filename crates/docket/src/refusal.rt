@@ -36,6 +36,7 @@ impl Refusal {
     pub fn number(self) -> u8
         ensures { result ≡ refusal_number self }
     {
+        // a cast, which gives the numbers above
         self as u8
     }
 }

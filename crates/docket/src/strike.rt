@@ -9,6 +9,7 @@ pub struct Strike {
 }
 
 /// What a settle check finds.
+// No `Result<u32, Strike>`: that a pair is loose is an answer, and the errors of the check are its refusals.
 #[derive(Clone, Copy, Debug, PartialEq, Eq)]
 pub enum Settlement {
     /// No pair is loose, and so many stand.

@@ -2,20 +2,18 @@
 ghost use Rattle.std.specs.Prelude.{◌≡◌, ◌≤◌, length};
 ghost use Rattle.arena.specs.Table.{number_standing, pairs};
 
-use arena::{Arena, STANDING, number_of_pairs};
+use arena::{Arena, Board, STANDING, number_of_pairs};
 
 /// How many pairs stand.
-pub(crate) fn number_standing<A: Arena>(arena: &A, table: &[u32]) -> u32
-    requires old { (A.Arena.view arena.now).old_states ≤ 256 }
-    requires new { (A.Arena.view arena.now).new_states ≤ 256 }
-    requires space { pairs (A.Arena.view arena.now) ≤ length table.now }
-    ensures { result ≡ number_standing (A.Arena.view arena.now) table.now }
+pub(crate) fn number_standing<A: Arena>(board: &Board<'_, A>) -> u32
+    requires old { (A.Arena.view board.now.arena.now).old_states ≤ 256 }
+    requires new { (A.Arena.view board.now.arena.now).new_states ≤ 256 }
+    requires space { pairs (A.Arena.view board.now.arena.now) ≤ length board.now.table.now }
+    ensures { result ≡ number_standing (A.Arena.view board.now.arena.now) board.now.table.now }
 {
-    let mut standing = 0;
-    for place in 0..number_of_pairs(arena) {
-        if table[place] == STANDING {
-            standing += 1;
-        }
-    }
-    standing
+    // at most 65,536, which the count's type has room for
+    board.table[..number_of_pairs(board.arena)]
+        .iter()
+        .filter(|entry| **entry == STANDING)
+        .count() as u32
 }

@@ -1,11 +1,10 @@
 //! Opening a docket.
 ghost use Rattle.std.specs.Prelude.{◌≡◌, ◌≤◌, length};
 ghost use Rattle.docket.specs.Position.{cleared, position};
-ghost use Rattle.docket.specs.Seen.{view};
 ghost use Rattle.docket.specs.Strikes.{open_does, open_says};
 
-use super::Docket;
-use crate::fit::opening_refusal;
+use super::{Docket, Ledger};
+use crate::fit::check_opening;
 use crate::refusal::Refusal;
 use arena::{Arena, STANDING, number_of_pairs};
 
@@ -22,21 +21,17 @@ impl Docket {
     ///
     /// A refused call changes nothing, and entries behind those of the pairs are never touched.
     pub fn open<A: Arena>(&mut self, arena: &A, table: &mut [u32]) -> Result<u32, Refusal>
-        ensures answer { result ≡ open_says (A.Arena.view arena.now) (position (view self.old) table.old) }
-        ensures after { position (view self.new) table.new ≡ open_does (A.Arena.view arena.now) (position (view self.old) table.old) }
+        ensures answer { result ≡ open_says (A.Arena.view arena.now) (position self.old table.old) }
+        ensures after { position self.new table.new ≡ open_does (A.Arena.view arena.now) (position self.old table.old) }
     {
-        if let Some(refusal) = opening_refusal(arena, table.len()) {
-            return Err(refusal);
-        }
-        let rows = arena.old_states();
-        let columns = arena.new_states();
-        clear(table, number_of_pairs(arena));
-        *self = Docket {
-            opened: true,
-            rows,
-            columns,
+        check_opening(arena, table.len())?;
+        let ledger = Ledger {
+            rows: arena.old_states(),
+            columns: arena.new_states(),
             count: 0,
         };
-        Ok(u32::from(rows) * u32::from(columns))
+        clear(table, number_of_pairs(arena));
+        self.ledger = Some(ledger);
+        Ok(ledger.pairs())
     }
 }

@@ -1,57 +1,56 @@
 //! A new docket, and what a docket tells of itself.
-ghost use Rattle.std.specs.Prelude.{◌≡◌, ◌≤◌, length, if◌then◌else◌, Some, None};
+ghost use Rattle.std.specs.Prelude.{◌≡◌, ◌*◌, ◌≤◌, length, if◌then◌else◌, Some, None, OnOk};
 ghost use Rattle.arena.specs.Table.{pairs};
 ghost use Rattle.docket.specs.Position.{closed, position};
-ghost use Rattle.docket.specs.Refusals.{use_refusal};
-ghost use Rattle.docket.specs.Seen.{view};
+ghost use Rattle.docket.specs.Refusals.{unless, use_refusal};
+ghost use Rattle.docket.specs.Seen.{ledger_view};
+ghost use Rattle.docket.specs.Use.{InUse};
 
-use super::Docket;
-use crate::fit::misfit;
+use super::{Docket, Ledger};
+use crate::fit::check_fit;
 use crate::refusal::Refusal;
-use arena::Arena;
+use arena::{Arena, Board};
 
 impl Docket {
     /// A closed docket.
     pub fn new() -> Docket
-        ensures { view result ≡ closed }
+        ensures { result ≡ closed }
     {
-        Docket {
-            opened: false,
-            rows: 0,
-            columns: 0,
-            count: 0,
-        }
+        Docket { ledger: None }
     }
 
     /// For how many old and new states the docket was opened; none if it is closed.
     pub fn sizes(&self) -> Option<(u16, u16)>
-        ensures { result ≡ (if (view self.now).is_open then Some ((view self.now).old_states, (view self.now).new_states) else None) }
+        ensures { result ≡ (if self.now.is_open then Some (self.now.old_states, self.now.new_states) else None) }
     {
-        if self.opened {
-            Some((self.rows, self.columns))
-        } else {
-            None
-        }
+        self.ledger.map(|ledger| (ledger.rows, ledger.columns))
     }
 
     /// How many strikes it has granted since it was opened.
     pub fn count(&self) -> u32
-        ensures { result ≡ (view self.now).count }
+        ensures { result ≡ self.now.count }
     {
-        self.count
+        self.ledger.map_or(0, |ledger| ledger.count)
+    }
+}
+
+impl Ledger {
+    /// How many pairs there are.
+    pub(super) fn pairs(&self) -> u32
+        ensures { result ≡ self.now.rows * self.now.columns }
+    {
+        u32::from(self.rows) * u32::from(self.columns)
     }
 
-    /// Why a call other than an opening is refused before it looks further.
-    pub(super) fn use_refusal<A: Arena>(&self, arena: &A, table: &[u32]) -> Option<Refusal>
-        ensures answer { result ≡ use_refusal (A.Arena.view arena.now) (position (view self.now) table.now) }
-        ensures fits { result ≡ None → (self.now.rows ≡ (A.Arena.view arena.now).old_states) × (self.now.columns ≡ (A.Arena.view arena.now).new_states) × (pairs (A.Arena.view arena.now) ≤ length table.now) }
+    /// Checks that a call other than an opening may look further: that the systems are of these sizes, and the table serves.
+    pub(super) fn check_use<A: Arena>(&self, board: &Board<'_, A>) -> Result<(), Refusal>
+        ensures answer { result ≡ unless (use_refusal (A.Arena.view board.now.arena.now) (position (ledger_view self.now) board.now.table.now)) tt }
+        ensures used { OnOk result (InUse (A.Arena.view board.now.arena.now) (position (ledger_view self.now) board.now.table.now)) }
     {
-        if !self.opened {
-            return Some(Refusal::Closed);
-        }
+        let arena = board.arena;
         if !(self.rows == arena.old_states() && self.columns == arena.new_states()) {
-            return Some(Refusal::OtherSizes);
+            return Err(Refusal::OtherSizes);
         }
-        misfit(arena, table.len())
+        check_fit(arena, board.table.len())
     }
 }

@@ -3,7 +3,6 @@ ghost use Rattle.std.specs.Prelude.{◌≡◌, ◌+◌, ◌≤◌, true, ◌++�
 ghost use Rattle.docket.specs.Law.{CertificateLaw, RunLaw};
 ghost use Rattle.docket.specs.Position.{position};
 ghost use Rattle.docket.specs.Run.{after, answers as answers_of, does, says};
-ghost use Rattle.docket.specs.Seen.{view};
 
 use super::Docket;
 use crate::call::{Call, Grant};
@@ -19,26 +18,15 @@ impl Docket {
         table: &mut [u32],
         call: Call,
     ) -> Result<Grant, Refusal>
-        ensures answer { result ≡ says (A.Arena.view arena.now) (position (view self.old) table.old) call }
-        ensures after { position (view self.new) table.new ≡ does (A.Arena.view arena.now) (position (view self.old) table.old) call }
+        ensures answer { result ≡ says (A.Arena.view arena.now) (position self.old table.old) call }
+        ensures after { position self.new table.new ≡ does (A.Arena.view arena.now) (position self.old table.old) call }
     {
+        // calls are data that a caller lists beforehand, and so no closures
         match call {
-            Call::Open => match self.open(arena, table) {
-                Ok(pairs) => Ok(Grant::Opened(pairs)),
-                Err(refusal) => Err(refusal),
-            },
-            Call::Strike(strike) => match self.strike(arena, table, strike) {
-                Ok(number) => Ok(Grant::Struck(number)),
-                Err(refusal) => Err(refusal),
-            },
-            Call::Sweep(budget) => match self.sweep(arena, table, budget) {
-                Ok(made) => Ok(Grant::Swept(made)),
-                Err(refusal) => Err(refusal),
-            },
-            Call::Settle => match self.settle(arena, table) {
-                Ok(settlement) => Ok(Grant::Checked(settlement)),
-                Err(refusal) => Err(refusal),
-            },
+            Call::Open => self.open(arena, table).map(Grant::Opened),
+            Call::Strike(strike) => self.strike(arena, table, strike).map(Grant::Struck),
+            Call::Sweep(budget) => self.sweep(arena, table, budget).map(Grant::Swept),
+            Call::Settle => self.settle(arena, table).map(Grant::Checked),
         }
     }
 
@@ -51,8 +39,8 @@ impl Docket {
         answers: &mut Vec<Result<Grant, Refusal>>,
     )
         requires { vec_len answers.old + length calls.now ≤ vec_capacity answers.old }
-        ensures answered { answers.new.items ≡ answers.old.items ++ answers_of (A.Arena.view arena.now) (position (view self.old) table.old) calls.now }
-        ensures after { position (view self.new) table.new ≡ after (A.Arena.view arena.now) (position (view self.old) table.old) calls.now }
+        ensures answered { answers.new.items ≡ answers.old.items ++ answers_of (A.Arena.view arena.now) (position self.old table.old) calls.now }
+        ensures after { position self.new table.new ≡ after (A.Arena.view arena.now) (position self.old table.old) calls.now }
         ensures capacity { vec_capacity answers.new ≡ vec_capacity answers.old }
     {
         for call in calls {
@@ -71,18 +59,14 @@ impl Docket {
         calls: &[Call],
         answers: &mut Vec<Result<Grant, Refusal>>,
     ) -> Result<(), AllocError>
-        ensures made { MatchResult result (λ _. (answers.new.items ≡ answers.old.items ++ answers_of (A.Arena.view arena.now) (position (view self.old) table.old) calls.now) × (position (view self.new) table.new ≡ after (A.Arena.view arena.now) (position (view self.old) table.old) calls.now)) (λ _. (answers.new.items ≡ answers.old.items) × (position (view self.new) table.new ≡ position (view self.old) table.old)) }
+        ensures made { MatchResult result (λ _. (answers.new.items ≡ answers.old.items ++ answers_of (A.Arena.view arena.now) (position self.old table.old) calls.now) × (position self.new table.new ≡ after (A.Arena.view arena.now) (position self.old table.old) calls.now)) (λ _. (answers.new.items ≡ answers.old.items) × (position self.new table.new ≡ position self.old table.old)) }
         ensures room { vec_len answers.old + length calls.now ≤ vec_capacity answers.old → is_ok result ≡ true }
         ensures capacity { vec_capacity answers.old ≤ vec_capacity answers.new }
-        ensures law { RunLaw (A.Arena.view arena.now) (position (view self.old) table.old) calls.now }
+        ensures law { RunLaw (A.Arena.view arena.now) (position self.old table.old) calls.now }
         ensures certificates { CertificateLaw (A.Arena.view arena.now) }
     {
-        match answers.reserve(calls.len()) {
-            Ok(()) => {
-                self.perform_all(arena, table, calls, answers);
-                Ok(())
-            }
-            Err(error) => Err(error),
-        }
+        answers.reserve(calls.len())?;
+        self.perform_all(arena, table, calls, answers);
+        Ok(())
     }
 }

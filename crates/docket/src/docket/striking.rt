@@ -1,70 +1,79 @@
 //! Striking a pair.
-ghost use Rattle.std.specs.Prelude.{◌≡◌, ◌+◌, ◌*◌, ◌<◌, ◌≤◌, length, None, slice_set};
+ghost use Rattle.std.specs.Prelude.{◌≡◌, ◌+◌, ◌*◌, ◌<◌, ◌≤◌, length, None, OnOk, nat_le, slice_set};
 ghost use Rattle.arena.specs.Pairs.{refutes};
 ghost use Rattle.arena.specs.Table.{pairs, struck};
 ghost use Rattle.docket.specs.Position.{one_more, position};
-ghost use Rattle.docket.specs.Refusals.{cause_refusal, pair_refusal, strike_refusal};
-ghost use Rattle.docket.specs.Seen.{view};
+ghost use Rattle.docket.specs.Refusals.{cause_refusal, pair_refusal, unless};
+ghost use Rattle.docket.specs.Seen.{ledger_view};
+ghost use Rattle.docket.specs.Use.{InUse};
 ghost use Rattle.docket.specs.Strikes.{strike_does, strike_says};
 
-use super::Docket;
+use super::{Docket, Ledger};
 use crate::refusal::Refusal;
 use crate::strike::Strike;
-use arena::{Arena, Cause, STANDING, entry_of, least_refuting_move, number_of_pairs};
+use arena::{Arena, Board, Cause, STANDING, place_of};
 
 /// Whether the move refutes the pair.
-fn does_refute<A: Arena>(arena: &A, table: &[u32], pair: (u16, u16), controller: u16) -> bool
+fn does_refute<A: Arena>(board: &Board<'_, A>, pair: (u16, u16), controller: u16) -> bool
     requires { controller < 65535 }
-    ensures { result ≡ refutes (A.Arena.view arena.now) (struck (A.Arena.view arena.now) table.now None) pair.0 pair.1 controller }
+    ensures { result ≡ refutes (A.Arena.view board.now.arena.now) (struck (A.Arena.view board.now.arena.now) board.now.table.now None) pair.0 pair.1 controller }
 {
-    least_refuting_move(arena, table, None, pair, controller, controller + 1).is_some()
+    board
+        .least_refuting_move(None, pair, controller..controller + 1)
+        .is_some()
 }
 
-/// Why the pair is not struck for the cause.
-fn cause_refusal<A: Arena>(arena: &A, table: &[u32], strike: Strike) -> Option<Refusal>
-    ensures { result ≡ cause_refusal (A.Arena.view arena.now) table.now strike.pair.0 strike.pair.1 strike.cause }
+/// Checks that there is the cause to strike the pair for.
+fn check_cause<A: Arena>(board: &Board<'_, A>, strike: Strike) -> Result<(), Refusal>
+    ensures { result ≡ unless (cause_refusal (A.Arena.view board.now.arena.now) board.now.table.now strike.pair.0 strike.pair.1 strike.cause) tt }
 {
     match strike.cause {
         Cause::Sight => {
-            if arena.alike(strike.pair) {
-                Some(Refusal::Alike)
-            } else {
-                None
+            if board.arena.alike(strike.pair) {
+                return Err(Refusal::Alike);
             }
         }
         Cause::Move(controller) => {
-            if controller >= arena.old_controller_moves(strike.pair.0) {
-                return Some(Refusal::NoSuchMove);
+            if controller >= board.arena.old_controller_moves(strike.pair.0) {
+                return Err(Refusal::NoSuchMove);
             }
-            if does_refute(arena, table, strike.pair, controller) {
-                None
-            } else {
-                Some(Refusal::NotRefuted)
+            if !does_refute(board, strike.pair, controller) {
+                return Err(Refusal::NotRefuted);
             }
         }
     }
+    Ok(())
 }
 
-impl Docket {
-    /// Why a docket in use refuses the strike.
-    fn pair_refusal<A: Arena>(&self, arena: &A, table: &[u32], strike: Strike) -> Option<Refusal>
-        ensures answer { result ≡ pair_refusal (A.Arena.view arena.now) (position (view self.now) table.now) strike.pair.0 strike.pair.1 strike.cause }
-        ensures grants { result ≡ None → (strike.pair.0 < (A.Arena.view arena.now).old_states) × (strike.pair.1 < (A.Arena.view arena.now).new_states) × (self.now.count < pairs (A.Arena.view arena.now)) }
+impl Ledger {
+    /// Whether as many strikes were granted as there are pairs.
+    pub(super) fn is_full(&self) -> bool
+        ensures { result ≡ nat_le (self.now.rows * self.now.columns) self.now.count }
     {
+        self.pairs() <= self.count
+    }
+
+    /// Checks that a docket in use can grant the strike.
+    fn check_strike<A: Arena>(&self, board: &Board<'_, A>, strike: Strike) -> Result<(), Refusal>
+        requires used { InUse (A.Arena.view board.now.arena.now) (position (ledger_view self.now) board.now.table.now) }
+        ensures answer { result ≡ unless (pair_refusal (A.Arena.view board.now.arena.now) (position (ledger_view self.now) board.now.table.now) strike.pair.0 strike.pair.1 strike.cause) tt }
+        ensures row { OnOk result (strike.pair.0 < (A.Arena.view board.now.arena.now).old_states) }
+        ensures column { OnOk result (strike.pair.1 < (A.Arena.view board.now.arena.now).new_states) }
+        ensures room { OnOk result (self.now.count < pairs (A.Arena.view board.now.arena.now)) }
+    {
+        let arena = board.arena;
         let (old_state, new_state) = strike.pair;
         if !(old_state < arena.old_states() && new_state < arena.new_states()) {
-            return Some(Refusal::NoSuchState);
+            return Err(Refusal::NoSuchState);
         }
-        if entry_of(table, arena.new_states(), strike.pair) != STANDING {
-            return Some(Refusal::AlreadyStruck);
+        if board.entry(strike.pair) != STANDING {
+            return Err(Refusal::AlreadyStruck);
         }
-        if let Some(refusal) = cause_refusal(arena, table, strike) {
-            return Some(refusal);
+        check_cause(board, strike)?;
+        if self.is_full() {
+            return Err(Refusal::Full);
         }
-        if self.count as usize >= number_of_pairs(arena) {
-            return Some(Refusal::Full);
-        }
-        None
+        Ok(())
     }
 
     /// Counts one more strike, and writes its number as the pair's entry.
@@ -74,15 +83,16 @@ impl Docket {
         requires space { self.old.rows * self.old.columns ≤ length table.old }
         requires room { self.old.count < self.old.rows * self.old.columns }
         ensures number { result ≡ self.old.count + 1 }
-        ensures docket { view self.new ≡ one_more (view self.old) }
+        ensures docket { ledger_view self.new ≡ one_more (ledger_view self.old) }
         ensures written { table.new ≡ slice_set table.old (pair.0 * self.old.columns + pair.1) (self.old.count + 1) }
     {
-        let (row, column) = pair;
         self.count += 1;
-        table[row as usize * self.columns as usize + column as usize] = self.count;
+        table[place_of(self.columns, pair)] = self.count;
         self.count
     }
+}
 
+impl Docket {
     /// Strikes the pair for the cause. The strike's number is what the docket then counts; it becomes the pair's entry, and is the answer.
     ///
     /// A refused call changes nothing, and no other entry is ever touched.
@@ -92,15 +102,13 @@ impl Docket {
         table: &mut [u32],
         strike: Strike,
     ) -> Result<u32, Refusal>
-        ensures answer { result ≡ strike_says (A.Arena.view arena.now) (position (view self.old) table.old) strike }
-        ensures after { position (view self.new) table.new ≡ strike_does (A.Arena.view arena.now) (position (view self.old) table.old) strike }
+        ensures answer { result ≡ strike_says (A.Arena.view arena.now) (position self.old table.old) strike }
+        ensures after { position self.new table.new ≡ strike_does (A.Arena.view arena.now) (position self.old table.old) strike }
     {
-        if let Some(refusal) = self.use_refusal(arena, table) {
-            return Err(refusal);
-        }
-        if let Some(refusal) = self.pair_refusal(arena, table, strike) {
-            return Err(refusal);
-        }
-        Ok(self.mark(table, strike.pair))
+        let ledger = self.ledger.as_mut().ok_or(Refusal::Closed)?;
+        let board = Board { arena, table };
+        ledger.check_use(&board)?;
+        ledger.check_strike(&board, strike)?;
+        Ok(ledger.mark(table, strike.pair))
     }
 }

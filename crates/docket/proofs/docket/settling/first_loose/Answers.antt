@@ -1,10 +1,9 @@
-use Rattle.std.proofs.Common.{sym, ◌∙◌, arith}
-use Rattle.systems.proofs.Bounded.{first_below_found, first_below_none_more}
+use Rattle.std.proofs.Common.{rules}
+use Rattle.systems.proofs.Bounded.{first_below_from_find_map}
+use Rattle.docket.specs.Settle.{first_loose_in}
 use Rattle.docket.proofs.docket.settling.first_loose.Goals as goal
 
-pub returns-in-Some : goal.returns-in-Some
-returns-in-Some g c =
-    sym (first_below_found (g.A.Arena.view c.args.arena.now).old_states c.loop-row.row _ c.in-Some.strike c.loop-row.invariant (sym c.first_loose_in.ensures ∙ c.in-Some.is) (omega (arith, c.old_states-row-end.ensures)))
-
-pub loop-row-preserved : goal.loop-row-preserved
-loop-row-preserved g c = first_below_none_more c.loop-row.row _ c.loop-row.invariant (sym c.first_loose_in.ensures ∙ c.in_default.is)
+pub returns : goal.returns
+returns g c =
+    let A = g.A.Arena.view c.args.board.now.arena.now in
+    first_below_from_find_map (λ w. first_loose_in A c.args.board.now.table.now w A.new_states) c.find_map.ensures.runs c.old_states.ensures (λ k r h call. search rules)

@@ -1,10 +1,8 @@
-use Rattle.std.proofs.Common.{sym, ◌∙◌, arith}
-use Rattle.systems.proofs.Bounded.{first_below_found, first_below_none_more}
+use Rattle.std.proofs.Common.{rules}
+use Rattle.systems.proofs.Bounded.{first_below_from_find_map}
+use Rattle.docket.specs.Settle.{loose_strike}
 use Rattle.docket.proofs.docket.settling.first_loose_in.Goals as goal
 
-pub returns-in-Some : goal.returns-in-Some
-returns-in-Some g c =
-    sym (first_below_found (g.A.Arena.view c.args.arena.now).new_states c.loop-column.column _ c.in-Some.strike c.loop-column.invariant (sym c.loose_strike.ensures ∙ c.in-Some.is) (omega (arith, c.new_states-column-end.ensures)))
-
-pub loop-column-preserved : goal.loop-column-preserved
-loop-column-preserved g c = first_below_none_more c.loop-column.column _ c.loop-column.invariant (sym c.loose_strike.ensures ∙ c.in_default.is)
+pub returns : goal.returns
+returns g c =
+    first_below_from_find_map (λ v. loose_strike (g.A.Arena.view c.args.board.now.arena.now) c.args.board.now.table.now c.args.row v) c.find_map.ensures.runs c.new_states.ensures (λ k r h call. search rules)

@@ -1,9 +1,0 @@
-use Rattle.std.proofs.Common.{◌≡◌, None}
-use Rattle.systems.specs.Bounded.{first_below}
-use Rattle.docket.specs.Settle.{first_loose_in}
-use Rattle.docket.proofs.docket.settling.first_loose.Given as goal
-
-abbrev pub invariant-loop-row : goal.invariant-loop-row
-invariant-loop-row g l =
-    let A = g.A.Arena.view l.arena in
-    first_below l.row (λ w. first_loose_in A l.table w A.new_states) ≡ None
