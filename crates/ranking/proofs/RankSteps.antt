@@ -1,39 +1,63 @@
 -- The steps of the loops of a ranking.
-use Rattle.std.proofs.Common.{◌≡◌, ℕ, ◌+◌, ◌*◌, ◌<◌, ◌≤◌, max, Bool, List, get_or, is_some, Option, sym, ap, ◌∙◌, add-one, arith}
-use Rattle.arena.proofs.Refuting.{some_refutes}
+use Rattle.std.proofs.Common.{◌≡◌, ℕ, zero, suc, ◌+◌, ◌-◌, ◌<◌, ◌≤◌, max, ◌&&◌, eqb, List, [], ◌∷◌, length, get_or, take, Some, sym, refl, ap, ◌∙◌, arith}
+use Rattle.std.proofs.Math.Seq.{take-suc}
+use Rattle.std.proofs.lemmas.Bool.{cond_both, cond-false, cond-true, eq-eqb, ne_eqb}
+use Rattle.std.proofs.lemmas.List.Sums.{fold-append}
+use Rattle.std.specs.List.{fold, reduce}
+use Rattle.std.specs.Prelude.{unwrap_or}
 use Rattle.arena.specs.Arena.{Arena}
-use Rattle.arena.specs.Pairs.{Relation, refuted}
-use Rattle.arena.specs.Table.{least_refuting, pairs}
-use Rattle.docket.proofs.Good.{place}
-use Rattle.ranking.specs.Rank.{Ranking, highest_below, rank_pair, rank_row, rank_rows, sight_rank, sight_row, sight_rows, with_entry}
+use Rattle.arena.specs.Pairs.{refuted}
+use Rattle.arena.specs.Table.{stands, struck}
+use Rattle.ranking.specs.Rank.{Ranking, highest_below, rank_pair, rank_round, rank_rounds, rank_row, rank_rows, ranking, with_entry}
 
--- the place of a pair, from numbers that equal its states and the columns
-pub place_in : (A : Arena) (w v row columns column entries : ℕ) → w < A.old_states → v < A.new_states → row ≡ w → columns ≡ A.new_states → column ≡ v → pairs A ≤ entries → row * columns + column < entries
-place_in A w v row columns column entries lw lv er ec ev room =
-    let same : row * columns ≡ w * A.new_states = ap (λ r. r * columns) er ∙ ap (λ k. w * k) ec in
-    omega (arith, same, place A w v lw lv)
+-- What adds no rank changes nothing.
+module _ (A : Arena) (k : ℕ) where
+  pair_still : (w v : ℕ) (y : Ranking) → (rank_pair A k w v y).added ≡ 0 → rank_pair A k w v y ≡ y
+  pair_still w v y =
+      cond_both (stands A y.table w v && refuted A (struck A y.table (Some k)) w v) (ranking (with_entry A y.table w v k) (y.added + 1)) y (λ z. z.added ≡ 0 → z ≡ y)
+      (λ _ none. absurd (omega (arith, none)))
+      (λ _ none. refl)
 
--- the next pair of a row by sight
-pub next_seen : (A : Arena) (w v : ℕ) (s t u : List ℕ) → sight_row A w v s ≡ t → u ≡ with_entry A t w v (sight_rank A w v) → sight_row A w (v + 1) s ≡ u
-next_seen A w v s t u h e = rw add-one (ap (λ z. with_entry A z w v (sight_rank A w v)) h ∙ sym e)
+  row_still : (w v : ℕ) (y : Ranking) → (rank_row A k w v y).added ≡ 0 → rank_row A k w v y ≡ y
+  row_still w zero y none = refl
+  row_still w (suc v) y none =
+      let same = pair_still w v (rank_row A k w v y) none in
+      same ∙ row_still w v y (sym (ap (λ z. z.added) same) ∙ none)
 
--- the next row by sight
-pub next_row_seen : (A : Arena) (w : ℕ) (s t u : List ℕ) → sight_rows A w s ≡ t → u ≡ sight_row A w A.new_states t → sight_rows A (w + 1) s ≡ u
-next_row_seen A w s t u h e = rw add-one (ap (λ z. sight_row A w A.new_states z) h ∙ sym e)
+  rows_still : (w : ℕ) (y : Ranking) → (rank_rows A k w y).added ≡ 0 → rank_rows A k w y ≡ y
+  rows_still zero y none = refl
+  rows_still (suc w) y none =
+      let same = row_still w A.new_states (rank_rows A k w y) none in
+      same ∙ rows_still w y (sym (ap (λ z. z.added) same) ∙ none)
 
--- the next pair of a row in a round
-pub next_ranked : (A : Arena) (k w v : ℕ) (s t u : Ranking) → rank_row A k w v s ≡ t → u ≡ rank_pair A k w v t → rank_row A k w (v + 1) s ≡ u
-next_ranked A k w v s t u h e = rw add-one (ap (λ z. rank_pair A k w v z) h ∙ sym e)
+  pub round_still : (t : List ℕ) → (rank_round A k t).added ≡ 0 → (rank_round A k t).table ≡ t
+  round_still t none = ap (λ z. z.table) (rows_still A.old_states (ranking t 0) none)
 
--- the next row in a round
-pub next_row_ranked : (A : Arena) (k w : ℕ) (s t u : Ranking) → rank_rows A k w s ≡ t → u ≡ rank_row A k w A.new_states t → rank_rows A k (w + 1) s ≡ u
-next_row_ranked A k w s t u h e = rw add-one (ap (λ z. rank_row A k w A.new_states z) h ∙ sym e)
+-- a round that adds no rank is the last
+pub rounds_end : (A : Arena) (most k : ℕ) (t : List ℕ) → (rank_round A k t).added ≡ 0 → (rank_round A k t).table ≡ rank_rounds A most k t
+rounds_end A zero k t none = round_still A k t none
+rounds_end A (suc most) k t none =
+    round_still A k t none ∙ sym (cond-true (eqb (rank_round A k t).added 0) t (rank_rounds A most (k + 1) (rank_round A k t).table) (eq-eqb (rank_round A k t).added 0 none))
 
--- some move refutes a pair where the search for the least such move finds one
-pub refuted_is : (A : Arena) (gone : Relation) (w v moves : ℕ) (least : Option ℕ) (r : Bool) → moves ≡ A.old_controller_moves w → least ≡ least_refuting A gone w v 0 moves → r ≡ is_some least → r ≡ refuted A gone w v
-refuted_is A gone w v moves least r em el er =
-    er ∙ ap is_some el ∙ ap (λ end. is_some (least_refuting A gone w v 0 end)) em ∙ some_refutes A gone w v (A.old_controller_moves w)
+-- one that adds ranks is followed by the others
+pub rounds_go_on : (A : Arena) (end k : ℕ) (t : List ℕ) → k < end → ((rank_round A k t).added ≡ 0 → ⊥) → rank_rounds A (end - (k + 1)) (k + 1) (rank_round A k t).table ≡ rank_rounds A (end - k) k t
+rounds_go_on A end k t l some =
+    let more : end - k ≡ suc (end - (k + 1)) = omega arith in
+    sym (ap (λ n. rank_rounds A n k t) more ∙ cond-false (eqb (rank_round A k t).added 0) t (rank_rounds A (end - (k + 1)) (k + 1) (rank_round A k t).table) (ne_eqb (rank_round A k t).added 0 some))
 
--- the next place in the search for the highest entry
-pub next_highest : (table : List ℕ) (i highest more : ℕ) → highest ≡ highest_below i table → more ≡ max highest (get_or table i 0) → more ≡ highest_below (i + 1) table
-next_highest table i highest more h e = rw add-one (e ∙ ap (λ n. max n (get_or table i 0)) h)
+-- the highest of the first entries, as a fold over them
+folded : (n : ℕ) (t : List ℕ) → n ≤ length t → fold max 0 (take n t) ≡ highest_below n t
+folded zero t l = refl
+folded (suc n) t l =
+    let less : n < length t = omega arith in
+    rw (take-suc t n 0 less, fold-append) (ap (λ h. max h (get_or t n 0)) (folded n t (omega arith)))
+
+reduced : (xs : List ℕ) → unwrap_or (reduce max xs) 0 ≡ fold max 0 xs
+reduced [] = refl
+reduced (x ∷ xs) =
+    let same : x ≡ max 0 x = omega arith in
+    ap (λ y. fold max y xs) same
+
+-- the highest of the first entries, or 0 where there is none
+pub highest_of : (n : ℕ) (t : List ℕ) → n ≤ length t → unwrap_or (reduce max (take n t)) 0 ≡ highest_below n t
+highest_of n t l = reduced (take n t) ∙ folded n t l

@@ -1,15 +1,15 @@
 -- What the rounds of a ranking write, and that the entries are the ranks once a round adds none.
 use Rattle.std.proofs.Common.{◌≡◌, ℕ, zero, suc, ◌+◌, ◌*◌, ◌<◌, ◌≤◌, Bool, true, false, cond, not, ◌&&◌, eqb, ltb, List, length, get_or, drop, Some, sym, refl, ap, ◌∙◌, subst, inl, inr, suc-mul, zero-mul, arith}
-use Rattle.std.proofs.lemmas.Nat.{mul-le}
 use Rattle.std.proofs.lemmas.List.{drop-set-lt, get_or-set_other, get_or-set_same, length-set}
-use Rattle.std.proofs.lemmas.Bool.{and_from, and_left, and_parts, and_right, both_ways, cases_Bool, cases_eq, cases_lt, cond_both, cond-false, cond-true, eq-eqb, eqb-false, eqb-true, le-ltb, lt-ltb, ne_eqb, not-false, not-true}
-use Rattle.arena.proofs.Bounds.{count_below_most, count_below_one_more}
+use Rattle.std.proofs.lemmas.Bool.{and_from, and_left, and_parts, and_right, both_ways, cases_Bool, cases_eq, cases_lt, cond_both, cond-false, cond-true, eq-eqb, eqb-false, eqb-true, le-ltb, lt-ltb, ne_eqb}
+use Rattle.arena.proofs.Bounds.{count_below_one_more}
 use Rattle.arena.proofs.Simulation.{refuted_more}
 use Rattle.arena.specs.Arena.{Arena, Closed}
 use Rattle.arena.specs.Bounds.{count_below}
 use Rattle.arena.specs.Pairs.{Relation, refuted}
 use Rattle.arena.specs.Table.{counts, entry, number_standing, pairs, stands, struck}
 use Rattle.docket.proofs.Good.{place, same_pair}
+use Rattle.ranking.proofs.RankSteps.{round_still}
 use Rattle.ranking.specs.Rank.{Ranking, SolvesRanks, rank_pair, rank_round, rank_rounds, rank_row, rank_rows, ranking, sight_rank, sight_row, sight_rows, sighted, with_entry}
 
 -- Entries written by index: those of the pairs below the n-th are new, and all others are as before.
@@ -100,7 +100,6 @@ module _ (A : Arena) (c : Closed A) (k : ℕ) (some : 0 < k) (t : List ℕ) (roo
   pub record Rounding (n : ℕ) (y : Ranking) : Type 0 where
     pub filled : Filled A new_rank t n y.table
     pub counted : number_standing A t ≡ number_standing A y.table + y.added
-    pub still : y.added ≡ 0 → y.table ≡ t
 
   -- what it writes does not count in it
   counts_same : (j w v : ℕ) → j ≤ k → counts (Some j) (new_rank w v) ≡ counts (Some j) (entry A t w v)
@@ -143,12 +142,10 @@ module _ (A : Arena) (c : Closed A) (k : ℕ) (some : 0 < k) (t : List ℕ) (roo
       record {
         filled = subst (λ e. Filled A new_rank t (suc (w * A.new_states + v)) (with_entry A y.table w v e)) (cond-true (ranks_now w v) k (entry A t w v) (sym same ∙ e)) (filled_next A new_rank t y.table w v lw lv room h.filled);
         counted = omega (arith, h.counted, fewer);
-        still = λ none. absurd (omega (arith, none));
       })
       (λ e. record {
         filled = filled_kept A new_rank t y.table w v lv (cond-false (ranks_now w v) k (entry A t w v) (sym same ∙ e)) h.filled;
         counted = h.counted;
-        still = h.still;
       })
 
   rounding_row : (w v : ℕ) → w < A.old_states → v ≤ A.new_states → (y : Ranking) → Rounding (w * A.new_states) y → Rounding (w * A.new_states + v) (rank_row A k w v y)
@@ -157,7 +154,7 @@ module _ (A : Arena) (c : Closed A) (k : ℕ) (some : 0 < k) (t : List ℕ) (roo
       subst (λ n. Rounding n (rank_row A k w (suc v) y)) (omega arith) (rounding_pair w v lw (omega arith) (rank_row A k w v y) (rounding_row w v lw (omega arith) y h))
 
   rounding_none : Rounding 0 (ranking t 0)
-  rounding_none = record { filled = filled_none A new_rank t; counted = omega arith; still = λ _. refl }
+  rounding_none = record { filled = filled_none A new_rank t; counted = omega arith }
 
   rounding_rows : (w : ℕ) → w ≤ A.old_states → Rounding (w * A.new_states) (rank_rows A k w (ranking t 0))
   rounding_rows zero lw = subst (λ n. Rounding n (ranking t 0)) (sym (zero-mul A.new_states)) rounding_none
@@ -176,7 +173,7 @@ module _ (A : Arena) (c : Closed A) (k : ℕ) (some : 0 < k) (t : List ℕ) (roo
         | inl e ↦
             let stood = eqb-true (entry A t w v) 0 (and_parts (stands A t w v) (refuted A (struck A t (Some k)) w v) e).0 in
             let now : entry A t w v ≡ k =
-            ap (λ u. entry A u w v) (sym (rounded.still none)) ∙ rounded.filled.done w v lv (place A w v lw lv) ∙ cond-true (ranks_now w v) k (entry A t w v) e in
+            ap (λ u. entry A u w v) (sym (round_still A k t none)) ∙ rounded.filled.done w v lv (place A w v lw lv) ∙ cond-true (ranks_now w v) k (entry A t w v) e in
             absurd (omega (arith, stood, now))
       ]
 
@@ -358,70 +355,3 @@ module _ (A : Arena) (c : Closed A) where
       let first = (rounded A c k some t room).filled in
       let later = rounds_keep most (k + 1) (omega arith) (rank_round A k t).table (omega (arith, first.size)) in
       (later.0 ∙ first.size, later.1 ∙ first.rest))
-
-  -- more rounds than pairs stand change nothing
-  rounds_same : (most more k : ℕ) → 0 < k → (t : List ℕ) → pairs A ≤ length t → number_standing A t ≤ most → number_standing A t ≤ more → rank_rounds A most k t ≡ rank_rounds A more k t
-  rounds_same zero zero k some t room h g = refl
-  rounds_same zero (suc more) k some t room h g =
-      sym (cond-true (adds_none A k t) t (further_rounds A more k t) (eq-eqb (rank_round A k t).added 0 (omega (arith, round_counts k some t room))))
-  rounds_same (suc most) zero k some t room h g =
-      cond-true (adds_none A k t) t (further_rounds A most k t) (eq-eqb (rank_round A k t).added 0 (omega (arith, round_counts k some t room)))
-  rounds_same (suc most) (suc more) k some t room h g =
-      elim (cases_Bool (adds_none A k t)) [
-        | inl none ↦ cond-true (adds_none A k t) t (further_rounds A most k t) none ∙ sym (cond-true (adds_none A k t) t (further_rounds A more k t) none)
-        | inr any ↦
-            let n : ℕ = (rank_round A k t).added in
-            let ne : n ≡ 0 → ⊥ = eqb-false n 0 any in
-            let counts = round_counts k some t room in
-            cond-false (adds_none A k t) t (further_rounds A most k t) any
-            ∙ rounds_same most more (k + 1) (omega arith) (rank_round A k t).table (omega (arith, round_size k some t room)) (omega (arith, counts, ne)) (omega (arith, counts, ne))
-            ∙ sym (cond-false (adds_none A k t) t (further_rounds A more k t) any)
-      ]
-
-  -- a round that adds ranks, and those behind it
-  rounds_next : (k : ℕ) → 0 < k → (t : List ℕ) → pairs A ≤ length t → ((rank_round A k t).added ≡ 0 → ⊥) → rank_rounds A (pairs A) k t ≡ rank_rounds A (pairs A) (k + 1) (rank_round A k t).table
-  rounds_next k some t room ne = next (pairs A) (count_below_most (pairs A) (λ i. eqb (get_or t i 0) 0))
-    where
-      next : (most : ℕ) → number_standing A t ≤ most → rank_rounds A most k t ≡ rank_rounds A most (k + 1) (rank_round A k t).table
-      next zero h = absurd (ne (omega (arith, round_counts k some t room)))
-      next (suc most) h =
-          let n : ℕ = (rank_round A k t).added in
-          let more : n ≡ 0 → ⊥ = ne in
-          let counts = round_counts k some t room in
-          cond-false (adds_none A k t) t (further_rounds A most k t) (ne_eqb (rank_round A k t).added 0 ne)
-          ∙ rounds_same most (suc most) (k + 1) (omega arith) (rank_round A k t).table (omega (arith, round_size k some t room)) (omega (arith, counts, more)) (omega (arith, counts))
-
-  -- and one that adds none is the last
-  rounds_last : (most k : ℕ) (t : List ℕ) → (rank_round A k t).added ≡ 0 → rank_rounds A most k t ≡ t
-  rounds_last zero k t none = refl
-  rounds_last (suc most) k t none = cond-true (adds_none A k t) t (further_rounds A most k t) (eq-eqb (rank_round A k t).added 0 none)
-
-  -- One round: from t it leads to u, and adds ranks or none.
-  module _ (k : ℕ) (some : 0 < k) (t u : List ℕ) (adds : Bool) (room : pairs A ≤ length t) (leads : u ≡ (rank_round A k t).table) (told : adds ≡ not (adds_none A k t)) where
-    added_some : adds ≡ true → (rank_round A k t).added ≡ 0 → ⊥
-    added_some more = eqb-false (rank_round A k t).added 0 (not-true (adds_none A k t) (sym told ∙ more))
-
-    added_none : adds ≡ false → (rank_round A k t).added ≡ 0
-    added_none over = eqb-true (rank_round A k t).added 0 (not-false (adds_none A k t) (sym told ∙ over))
-
-    -- there are ranks to come
-    pub round_goes_on : (all : List ℕ) → adds ≡ true → rank_rounds A (pairs A) k t ≡ all → rank_rounds A (pairs A) (k + 1) u ≡ all
-    round_goes_on all more h = ap (λ u. rank_rounds A (pairs A) (k + 1) u) leads ∙ sym (rounds_next k some t room (added_some more)) ∙ h
-
-    -- there are none
-    pub round_ends : (all : List ℕ) → adds ≡ false → rank_rounds A (pairs A) k t ≡ all → u ≡ all
-    round_ends all over h =
-        let none = added_none over in
-        leads ∙ (rounded A c k some t room).still none ∙ sym (rounds_last (pairs A) k t none) ∙ h
-
-    -- each round but the last leaves fewer pairs standing
-    pub fewer_stand : adds ≡ true → number_standing A u < number_standing A t
-    fewer_stand more =
-        let n : ℕ = (rank_round A k t).added in
-        let ne : n ≡ 0 → ⊥ = added_some more in
-        let same : number_standing A u ≡ number_standing A (rank_round A k t).table = ap (λ u. number_standing A u) leads in
-        omega (arith, round_counts k some t room, ne, same)
-
--- there are so few rounds that their number fits
-pub round_fits : (A : Arena) (k standing : ℕ) → A.old_states ≤ 256 → A.new_states ≤ 256 → k + standing ≤ 2 + pairs A → k < 65539
-round_fits A k standing old new h = omega (arith, mul-le A.old_states A.new_states 256 256 old new)

@@ -2,5 +2,6 @@
 #![tactic(auto)]
 
 mod ranking;
+mod table;
 
 pub use ranking::rank;
