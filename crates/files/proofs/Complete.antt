@@ -1,10 +1,11 @@
 -- Bytes that spell a system are read to that system.
-use Rattle.std.proofs.Common.{◌≡◌, ℕ, zero, suc, ◌+◌, ◌-◌, ◌*◌, ◌/◌, ◌%◌, ◌<◌, ◌≤◌, ◌&&◌, ltb, List, ◌∷◌, length, None, sym, refl, ap, ◌∙◌, subst, inl, inr, mod-lt, div-lt_iff_lt-mul, mul-zero, div-add-mod', arith}
-use Rattle.std.proofs.lemmas.Bool.{and_cases, and_parts, cases_lt, cond_both, ltb-false, ltb-true}
-use Rattle.codec.specs.Filing.{filed, unfiled}
+use Rattle.std.proofs.Common.{◌≡◌, ℕ, zero, suc, ◌+◌, ◌-◌, ◌*◌, ◌/◌, ◌%◌, ◌<◌, ◌≤◌, List, ◌∷◌, length, None, sym, refl, ap, ◌∙◌, subst, inl, inr, mod-lt, div-lt_iff_lt-mul, mul-zero, div-add-mod', below_more, arith}
+use Rattle.std.proofs.lemmas.Bool.Decides.{nat_tests}
+use Rattle.std.proofs.lemmas.Bool.{cases_lt}
+use Rattle.codec.specs.Filing.{filed}
 use Rattle.codec.proofs.Filed.{unfiled-filed}
 use Rattle.systems.specs.Layout.{words_taken}
-use Rattle.systems.specs.Meaning.{Meaning, Lawful, no_question}
+use Rattle.systems.specs.Meaning.{Meaning, Lawful}
 use Rattle.files.specs.Flattening.{readings_flattened, next_flattened, row_flattened, rows_flattened, flattened}
 use Rattle.files.specs.Put.{Few}
 use Rattle.files.specs.Sequence.{value_at, after, skip, nth, Spells}
@@ -72,10 +73,7 @@ module _ (m : Meaning) (law : Lawful m) (few : Few m) (bytes : List ℕ) where
       let s = spells_split (rows_flattened m k) (row_flattened m k) from rest h in
       let before = unspell_rows start k from s.0 (omega arith) here s.1 in
       let last = unspell_row k (row_start bytes c start k) s.0 rest (omega arith) before.1 s.2 in (
-        (λ w l. elim (cases_lt w k) [
-          | inl less ↦ before.0 w less
-          | inr more ↦ let same : k ≡ w = omega arith in subst (λ v. RowIs m.states c v (row_start bytes c start v)) same last.0
-        ]),
+        (λ w l. below_more (λ v. RowIs m.states c v (row_start bytes c start v)) k before.0 last.0 w (omega arith)),
         last.1,
       )
 
@@ -113,6 +111,20 @@ module _ (m : Meaning) (law : Lawful m) (few : Few m) (bytes : List ℕ) where
       rows = λ w l. (rows_are.0 w l).tested;
     }
 
+    -- each answer that was read
+    controller_read : (w : ℕ) → w < states_at bytes 0 → value_at bytes (controller_place bytes (channels_at bytes 0) (row_at bytes 0 w)) ≡ m.controller_moves w
+    controller_read w l = (rows_are.0 w l).controller
+
+    environment_read : (w : ℕ) → w < states_at bytes 0 → value_at bytes (environment_place bytes (channels_at bytes 0) (row_at bytes 0 w)) ≡ m.environment_moves w
+    environment_read w l = (rows_are.0 w l).environment
+
+    reading_read : (w k : ℕ) → w < states_at bytes 0 → k < channels_at bytes 0 → nth bytes k (row_at bytes 0 w) ≡ filed (m.reading w k)
+    reading_read w k l h = (rows_are.0 w l).reading k h
+
+    next_read : (w a b : ℕ) → w < states_at bytes 0 → a < m.controller_moves w → b < m.environment_moves w
+        → nth bytes (a * m.environment_moves w + b) (next_place bytes (channels_at bytes 0) (row_at bytes 0 w)) ≡ m.next w a b
+    next_read w a b l f g = (rows_are.0 w l).next a b f g
+
     same : described bytes 0 ≡ m
     unfolding described
     same =
@@ -122,37 +134,12 @@ module _ (m : Meaning) (law : Lawful m) (few : Few m) (bytes : List ℕ) where
         let q : ℕ → ℕ = (described bytes 0).environment_moves in
         let n_is : n ≡ m.states = states_read.value in
         let c_is : c ≡ m.channels = channels_read.value in
-        let controller : (w : ℕ) → p w ≡ m.controller_moves w = λ w.
-        cond_both (ltb w n) (value_at bytes (controller_place bytes c (row_at bytes 0 w))) 0 (λ x. x ≡ m.controller_moves w)
-        (λ t. (rows_are.0 w (ltb-true w n t)).controller) (λ t. sym (law.no_state_controller w (omega (arith, ltb-false w n t)))) in
-        let environment : (w : ℕ) → q w ≡ m.environment_moves w = λ w.
-        cond_both (ltb w n) (value_at bytes (environment_place bytes c (row_at bytes 0 w))) 0 (λ x. x ≡ m.environment_moves w)
-        (λ t. (rows_are.0 w (ltb-true w n t)).environment) (λ t. sym (law.no_state_environment w (omega (arith, ltb-false w n t)))) in
+        let controller : (w : ℕ) → p w ≡ m.controller_moves w = λ w. grind (arith, nat_tests, controller_read, law.no_state_controller) in
+        let environment : (w : ℕ) → q w ≡ m.environment_moves w = λ w. grind (arith, nat_tests, environment_read, law.no_state_environment) in
         same_meaning (described bytes 0) m n_is c_is
-        (λ w k.
-        cond_both (ltb w n && ltb k c) (unfiled (nth bytes k (row_at bytes 0 w))) no_question (λ x. x ≡ m.reading w k)
-        (λ t.
-        let both = and_parts (ltb w n) (ltb k c) t in
-        ap unfiled ((rows_are.0 w (ltb-true w n both.0)).reading k (ltb-true k c both.1)) ∙ unfiled-filed (m.reading w k))
-        (λ t. elim (and_cases (ltb w n) (ltb k c) t) [
-          | inl out ↦ sym (law.no_state_reading w k (omega (arith, ltb-false w n out)))
-          | inr out ↦ sym (law.no_channel_reading w k (omega (arith, ltb-false k c out)))
-        ]))
+        (λ w k. grind (arith, nat_tests, reading_read, unfiled-filed, law.no_state_reading, law.no_channel_reading))
         controller environment
-        (λ w a b.
-        cond_both (ltb w n && (ltb a (p w) && ltb b (q w))) (nth bytes (a * q w + b) (next_place bytes c (row_at bytes 0 w))) 0 (λ x. x ≡ m.next w a b)
-        (λ t.
-        let s = and_parts (ltb w n) (ltb a (p w) && ltb b (q w)) t in
-        let u = and_parts (ltb a (p w)) (ltb b (q w)) s.1 in
-        ap (λ x. nth bytes (a * x + b) (next_place bytes c (row_at bytes 0 w))) (environment w)
-        ∙ (rows_are.0 w (ltb-true w n s.0)).next a b (omega (arith, controller w, ltb-true a (p w) u.0)) (omega (arith, environment w, ltb-true b (q w) u.1)))
-        (λ t. elim (and_cases (ltb w n) (ltb a (p w) && ltb b (q w)) t) [
-          | inl out ↦ sym (law.no_controller_next w a b (omega (arith, law.no_state_controller w (omega (arith, ltb-false w n out)))))
-          | inr none ↦ elim (and_cases (ltb a (p w)) (ltb b (q w)) none) [
-            | inl out ↦ sym (law.no_controller_next w a b (omega (arith, controller w, ltb-false a (p w) out)))
-            | inr out ↦ sym (law.no_environment_next w a b (omega (arith, environment w, ltb-false b (q w) out)))
-          ]
-        ]))
+        (λ w a b. grind (arith, nat_tests, next_read, controller, environment, law.no_state_controller, law.no_controller_next, law.no_environment_next))
 
     pub reads_back : ReadsBack m bytes (length bytes - length rest)
     reads_back = record {

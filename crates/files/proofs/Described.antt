@@ -1,8 +1,9 @@
 -- The system that a file without a fault describes: its answers, that it has a layout, and that the file is just its numbers.
-use Rattle.std.proofs.Common.{◌≡◌, ℕ, zero, suc, ◌+◌, ◌*◌, ◌/◌, ◌%◌, ◌<◌, ◌≤◌, Bool, true, false, ◌&&◌, eqb, ltb, List, ◌∷◌, ◌++◌, length, get_or, drop, pos, negsuc, Ok, sym, refl, ap, ◌∙◌, subst, inl, inr, mul_comm, arith}
+use Rattle.std.proofs.Common.{◌≡◌, ℕ, zero, suc, ◌+◌, ◌*◌, ◌/◌, ◌%◌, ◌<◌, ◌≤◌, eqb, ltb, List, ◌∷◌, ◌++◌, length, get_or, drop, pos, negsuc, Ok, sym, refl, ap, ◌∙◌, subst, inl, inr, mul_comm, arith}
 use Rattle.std.proofs.lemmas.Nat.{mul-add-lt}
 use Rattle.std.proofs.lemmas.Int.{ints}
-use Rattle.std.proofs.lemmas.Bool.{and_from, cases_Bool, cond_both, cond-true, cond-false, ltb-true, lt-ltb, le-ltb}
+use Rattle.std.proofs.lemmas.Bool.Decides.{nat_tests}
+use Rattle.std.proofs.lemmas.Bool.{cases_Bool, cond_both, lt-ltb}
 use Rattle.codec.specs.Filing.{filed, unfiled}
 use Rattle.codec.specs.Number.{number}
 use Rattle.codec.proofs.Filed.{filed-unfiled}
@@ -46,21 +47,6 @@ unfiled_held v h =
     cond_both (eqb (v % 2) 0) (pos (v / 2)) (negsuc (v / 2)) (λ z. unbiased (biased z) ≡ z)
     (λ _. omega (arith, ints)) (λ _. omega (arith, ints))
 
--- a test of three parts
-three : (x y z : Bool) → x ≡ true → y ≡ true → z ≡ true → (x && (y && z)) ≡ true
-three x y z p q r = and_from x (y && z) p (and_from y z q r)
-
-not_three : (x y z : Bool) → (x ≡ true → y ≡ true → z ≡ true → ⊥) → (x && (y && z)) ≡ false
-not_three true true true h = absurd (h refl refl refl)
-not_three true true false h = refl
-not_three true false z h = refl
-not_three false y z h = refl
-
-not_two : (x y : Bool) → (x ≡ true → y ≡ true → ⊥) → (x && y) ≡ false
-not_two true true h = absurd (h refl refl)
-not_two true false h = refl
-not_two false y h = refl
-
 module _ (bytes : List ℕ) (place : ℕ) where
   n : ℕ
   n = states_at bytes place
@@ -77,21 +63,20 @@ module _ (bytes : List ℕ) (place : ℕ) where
   -- the answers at arguments in range
   reading_in : (w k : ℕ) → w < n → k < c → m.reading w k ≡ unfiled (nth bytes k (start w))
   unfolding described n c start m
-  reading_in w k l h = rw (lt-ltb w n l, lt-ltb k c h) refl
+  reading_in w k l h = grind (arith, nat_tests)
 
   controller_in : (w : ℕ) → w < n → m.controller_moves w ≡ value_at bytes (controller_place bytes c (start w))
   unfolding described n c start m
-  controller_in w l = rw (lt-ltb w n l) refl
+  controller_in w l = grind (arith, nat_tests)
 
   environment_in : (w : ℕ) → w < n → m.environment_moves w ≡ value_at bytes (environment_place bytes c (start w))
   unfolding described n c start m
-  environment_in w l = rw (lt-ltb w n l) refl
+  environment_in w l = grind (arith, nat_tests)
 
   next_in : (w a b : ℕ) → w < n → a < m.controller_moves w → b < m.environment_moves w
       → m.next w a b ≡ nth bytes (a * m.environment_moves w + b) (next_place bytes c (start w))
   unfolding described n c start m
-  next_in w a b l f g =
-      cond-true _ _ 0 (three (ltb w n) (ltb a (m.controller_moves w)) (ltb b (m.environment_moves w)) (lt-ltb w n l) (lt-ltb a (m.controller_moves w) f) (lt-ltb b (m.environment_moves w) g))
+  next_in w a b l f g = grind (arith, nat_tests)
 
   -- the words of its layout
   pub row_is : (w j : ℕ) → w < states_at bytes place → row_word (described bytes place) w j ≡ row_cell bytes (channels_at bytes place) (row_at bytes place w) j
@@ -151,20 +136,22 @@ module _ (bytes : List ℕ) (place : ℕ) where
     pub storable : Storable (described bytes place)
     unfolding described n c start m
     storable = record {
+      few = record {
+        few_states = ok.states.high;
+        few_channels = ok.channels.high;
+        few_controller_moves = λ w l. subst (λ x. x ≤ 16) (sym (controller_in w l)) (ok.rows w l).controller.high;
+        few_environment_moves = λ w l. subst (λ x. x ≤ 16) (sym (environment_in w l)) (ok.rows w l).environment.high;
+      };
       some_state = ok.states.low;
-      few_states = ok.states.high;
       some_channel = ok.channels.low;
-      few_channels = ok.channels.high;
       some_controller_move = λ w l. subst (λ x. 1 ≤ x) (sym (controller_in w l)) (ok.rows w l).controller.low;
-      few_controller_moves = λ w l. subst (λ x. x ≤ 16) (sym (controller_in w l)) (ok.rows w l).controller.high;
       some_environment_move = λ w l. subst (λ x. 1 ≤ x) (sym (environment_in w l)) (ok.rows w l).environment.low;
-      few_environment_moves = λ w l. subst (λ x. x ≤ 16) (sym (environment_in w l)) (ok.rows w l).environment.high;
       next_bound = next_fits;
       reading_held = λ w k l h. subst (λ z. unbiased (biased z) ≡ z) (sym (reading_in w k l h)) (unfiled_held (nth bytes k (start w)) (value_bound bytes (skip bytes k (start w))));
-      no_reading = λ w k out. cond-false _ _ _ (not_two (ltb w n) (ltb k c) (λ x y. out (ltb-true w n x) (ltb-true k c y)));
-      no_controller_move = λ w h. cond-false _ _ _ (le-ltb w n h);
-      no_environment_move = λ w h. cond-false _ _ _ (le-ltb w n h);
-      no_next = λ w a b out. cond-false _ _ _ (not_three (ltb w n) (ltb a (m.controller_moves w)) (ltb b (m.environment_moves w)) (λ x y z. out (ltb-true w n x) (ltb-true a (m.controller_moves w) y) (ltb-true b (m.environment_moves w) z)));
+      no_reading = λ w k out. grind (arith, nat_tests);
+      no_controller_move = λ w h. grind (arith, nat_tests);
+      no_environment_move = λ w h. grind (arith, nat_tests);
+      no_next = λ w a b out. grind (arith, nat_tests);
     }
 
     -- its layout, with whatever words behind it, holds it

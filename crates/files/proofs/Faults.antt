@@ -1,11 +1,11 @@
 -- What an answer tells of the fault that there is, or is not.
-use Rattle.std.proofs.Common.{◌≡◌, ℕ, Some, None, Ok, Err, Option, Result, refl, arith}
+use Rattle.std.proofs.Common.{◌≡◌, Some, None, Ok, Err, Option, Result, refl}
 use Rattle.files.specs.Answer.{unless}
 
 pub unless_err : {X F : Type 0} (fault : Option F) (value : X) (why : F) → Err why ≡ unless fault value → fault ≡ Some why
 unless_err (Some fault) value why h = cc
-unless_err None value why h = let z : ◌≡◌ {A = ℕ} 0 1 = cc in absurd (omega arith)
+unless_err None value why h = absurd cc
 
 pub unless_ok : {X F : Type 0} (fault : Option F) (value found : X) → ◌≡◌ {A = Result X F} (Ok found) (unless fault value) → (fault ≡ None) × (found ≡ value)
-unless_ok (Some fault) value found h = let z : ◌≡◌ {A = ℕ} 0 1 = cc in absurd (omega arith)
+unless_ok (Some fault) value found h = absurd cc
 unless_ok None value found h = (refl, cc)

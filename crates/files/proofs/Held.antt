@@ -1,25 +1,24 @@
 -- The layout of a system holds that system.
-use Rattle.std.proofs.Common.{◌≡◌, ℕ, ◌+◌, ◌-◌, ◌*◌, ◌/◌, ◌%◌, ◌<◌, ◌≤◌, true, false, cond, ◌&&◌, ltb, List, ◌++◌, length, get_or, sym, refl, ap, ◌∙◌, subst, subst₂, inl, inr, mod-lt, div-lt_iff_lt-mul, div-add-mod', arith}
+use Rattle.std.proofs.Common.{◌≡◌, ℕ, ◌+◌, ◌-◌, ◌*◌, ◌/◌, ◌%◌, ◌<◌, ◌≤◌, cond, ◌&&◌, ltb, List, ◌++◌, length, get_or, sym, ap, ◌∙◌, subst, subst₂, inl, inr, mod-lt, div-lt_iff_lt-mul, div-add-mod', arith}
 use Rattle.std.proofs.lemmas.Nat.{div-mul-add, mod-mul-add}
 use Rattle.std.proofs.lemmas.List.FromFn.{length-map-range_with_len, get_or-map-range_with_len, fill_by_all}
 use Rattle.std.proofs.lemmas.List.{get_or_append_left, length-append}
-use Rattle.std.proofs.lemmas.Bool.{and_from, and_parts, both_ways, cases_eq, cases_lt, cond_both, ltb-true, ltb-false, lt-ltb, le-ltb, eq-eqb, ne_eqb}
+use Rattle.std.proofs.lemmas.Bool.Decides.{nat_tests}
+use Rattle.std.proofs.lemmas.Bool.{cases_lt, ne_eqb}
 use Rattle.systems.specs.Layout.{LaidOut, RowLaidOut, stored, unbiased, row_words, row_place, words_taken, state_count, channel_count, reading_word, controller_word, environment_word, next_word}
 use Rattle.systems.specs.Layout.{row_word as stored_word}
 use Rattle.systems.specs.Meaning.{Meaning, no_question}
+use Rattle.files.specs.Put.{Few}
 use Rattle.files.specs.Words.{biased, row_word, system_word, system_words}
 use Rattle.files.proofs.Behind.{row_ends}
 
--- what a system needs to have a layout: sizes that fit, readings of 16 bits, and 0 for an argument out of range
+-- what a system needs to have a layout: sizes as in a file, readings of 16 bits, and 0 for an argument out of range
 pub record Storable (m : Meaning) : Type 0 where
+  pub few : Few m
   pub some_state : 1 ≤ m.states
-  pub few_states : m.states ≤ 256
   pub some_channel : 1 ≤ m.channels
-  pub few_channels : m.channels ≤ 8
   pub some_controller_move : (w : ℕ) → w < m.states → 1 ≤ m.controller_moves w
-  pub few_controller_moves : (w : ℕ) → w < m.states → m.controller_moves w ≤ 16
   pub some_environment_move : (w : ℕ) → w < m.states → 1 ≤ m.environment_moves w
-  pub few_environment_moves : (w : ℕ) → w < m.states → m.environment_moves w ≤ 16
   pub next_bound : (w a b : ℕ) → w < m.states → a < m.controller_moves w → b < m.environment_moves w → m.next w a b < m.states
   pub reading_held : (w k : ℕ) → w < m.states → k < m.channels → unbiased (biased (m.reading w k)) ≡ m.reading w k
   pub no_reading : (w k : ℕ) → (w < m.states → k < m.channels → ⊥) → m.reading w k ≡ no_question
@@ -46,25 +45,20 @@ same_meaning s t states channels reading controller environment next =
 
 -- the words of a row of the layout, by what they hold
 reading_at : (m : Meaning) (w k : ℕ) → k < m.channels → row_word m w k ≡ biased (m.reading w k)
-reading_at m w k l = rw (lt-ltb k m.channels l)
+reading_at m w k l = grind (arith, nat_tests)
 
 controller_at : (m : Meaning) (w : ℕ) → row_word m w m.channels ≡ m.controller_moves w
-controller_at m w =
-    let c : ℕ = m.channels in
-    rw (le-ltb c c (omega arith), eq-eqb c c refl)
+controller_at m w = grind (arith, nat_tests)
 
 environment_at : (m : Meaning) (w : ℕ) → row_word m w (m.channels + 1) ≡ m.environment_moves w
-environment_at m w =
-    let c : ℕ = m.channels in
-    rw (le-ltb (c + 1) c (omega arith), ne_eqb (c + 1) c (λ e. omega arith), eq-eqb (c + 1) (c + 1) refl)
+environment_at m w = grind (arith, nat_tests)
 
 next_at : (m : Meaning) (w a b : ℕ) → b < 16 → row_word m w (m.channels + 2 + (a * 16 + b)) ≡ m.next w a b
 next_at m w a b l =
-    let c : ℕ = m.channels in
-    let j : ℕ = c + 2 + (a * 16 + b) in
-    let row : (j - (c + 2)) / 16 ≡ a = omega arith in
-    let column : (j - (c + 2)) % 16 ≡ b = omega arith in
-    rw (le-ltb j c (omega arith), ne_eqb j c (λ e. omega arith), ne_eqb j (c + 1) (λ e. omega arith)) (ap (λ x. m.next w x ((j - (c + 2)) % 16)) row ∙ ap (m.next w a) column)
+    let j : ℕ = a * 16 + b in
+    let row : (m.channels + 2 + j - (m.channels + 2)) / 16 ≡ a = omega arith in
+    let column : (m.channels + 2 + j - (m.channels + 2)) % 16 ≡ b = omega arith in
+    grind (arith, nat_tests)
 
 -- word j of the row of state w stands j words behind where the row begins
 row_word_at : (m : Meaning) (w j : ℕ) → j < row_words m.channels → system_word m (row_place m.channels w + j) ≡ row_word m w j
@@ -86,10 +80,7 @@ by_rows m words long states channels rows =
     let is : ℕ → Type 0 = λ i. get_or words i 0 ≡ system_word m i in
     fill_by_all (system_word m) words (words_taken m.states m.channels) 0 long
     (λ i l. elim (cases_lt i 2) [
-      | inl header ↦ elim (cases_eq i 0) [
-        | inl first ↦ subst is (sym first) states
-        | inr other ↦ let second : 1 ≡ i = omega arith in subst is second channels
-      ]
+      | inl header ↦ grind (arith, nat_tests)
       | inr behind ↦
           let w : ℕ = (i - 2) / r in
           let j : ℕ = (i - 2) % r in
@@ -127,54 +118,18 @@ module _ (m : Meaning) (ok : Storable m) (words : List ℕ) (begins : (i : ℕ) 
   next_held w a b l low high =
       ap (λ c. stored_word words w (c + 2 + (a * 16 + b))) channels_held ∙ row_held w (m.channels + 2 + (a * 16 + b)) l (omega arith) ∙ next_at m w a b high
 
-  -- a state of the words is one of the system
-  in_range : (w : ℕ) → ltb w (state_count words) ≡ true → w < m.states
-  in_range w e = omega (arith, ltb-true w (state_count words) e, states_held)
-
-  out_of_range : (w : ℕ) → ltb w (state_count words) ≡ false → m.states ≤ w
-  out_of_range w e = omega (arith, ltb-false w (state_count words) e, states_held)
-
   controller_same : (w : ℕ) → cond (ltb w (state_count words)) (controller_word words w) 0 ≡ m.controller_moves w
-  controller_same w =
-      cond_both (ltb w (state_count words)) (controller_word words w) 0 (λ x. x ≡ m.controller_moves w)
-      (λ e. controller_held w (in_range w e))
-      (λ e. sym (ok.no_controller_move w (out_of_range w e)))
+  controller_same w = grind (arith, nat_tests, states_held, controller_held, ok.no_controller_move)
 
   environment_same : (w : ℕ) → cond (ltb w (state_count words)) (environment_word words w) 0 ≡ m.environment_moves w
-  environment_same w =
-      cond_both (ltb w (state_count words)) (environment_word words w) 0 (λ x. x ≡ m.environment_moves w)
-      (λ e. environment_held w (in_range w e))
-      (λ e. sym (ok.no_environment_move w (out_of_range w e)))
+  environment_same w = grind (arith, nat_tests, states_held, environment_held, ok.no_environment_move)
 
   reading_same : (w k : ℕ) → cond (ltb w (state_count words) && ltb k (channel_count words)) (unbiased (reading_word words w k)) no_question ≡ m.reading w k
-  reading_same w k =
-      let n : ℕ = state_count words in
-      let c : ℕ = channel_count words in
-      let asked = ltb w n && ltb k c in
-      cond_both asked (unbiased (reading_word words w k)) no_question (λ x. x ≡ m.reading w k)
-      (λ e.
-      let both = and_parts (ltb w n) (ltb k c) e in
-      let l : w < m.states = in_range w both.0 in
-      let h : k < m.channels = omega (arith, ltb-true k c both.1, channels_held) in
-      ap unbiased (reading_held w k l h) ∙ ok.reading_held w k l h)
-      (λ e. sym (ok.no_reading w k (λ l h. both_ways asked e
-      (and_from (ltb w n) (ltb k c) (lt-ltb w n (omega (arith, states_held))) (lt-ltb k c (omega (arith, channels_held)))))))
+  reading_same w k = grind (arith, nat_tests, states_held, channels_held, reading_held, ok.reading_held, ok.no_reading)
 
   next_same : (w a b p q : ℕ) → p ≡ m.controller_moves w → q ≡ m.environment_moves w
       → cond (ltb w (state_count words) && (ltb a p && ltb b q)) (next_word words w a b) 0 ≡ m.next w a b
-  next_same w a b p q controller environment =
-      let n : ℕ = state_count words in
-      let moves = ltb a p && ltb b q in
-      let asked = ltb w n && moves in
-      cond_both asked (next_word words w a b) 0 (λ x. x ≡ m.next w a b)
-      (λ e.
-      let both = and_parts (ltb w n) moves e in
-      let pair = and_parts (ltb a p) (ltb b q) both.1 in
-      let l : w < m.states = in_range w both.0 in
-      next_held w a b l (omega (arith, ltb-true a p pair.0, ok.few_controller_moves w l)) (omega (arith, ltb-true b q pair.1, ok.few_environment_moves w l)))
-      (λ e. sym (ok.no_next w a b (λ l f g. both_ways asked e
-      (and_from (ltb w n) moves (lt-ltb w n (omega (arith, states_held)))
-      (and_from (ltb a p) (ltb b q) (lt-ltb a p (omega arith)) (lt-ltb b q (omega arith)))))))
+  next_same w a b p q controller environment = grind (arith, nat_tests, states_held, next_held, ok.few.few_controller_moves, ok.few.few_environment_moves, ok.no_next)
 
   stored_same : stored words ≡ m
   stored_same =
@@ -185,8 +140,8 @@ module _ (m : Meaning) (ok : Storable m) (words : List ℕ) (begins : (i : ℕ) 
   row_laid_out w l =
       let p : controller_word words w ≡ m.controller_moves w = controller_held w l in
       let q : environment_word words w ≡ m.environment_moves w = environment_held w l in
-      let few_p : m.controller_moves w ≤ 16 = ok.few_controller_moves w l in
-      let few_q : m.environment_moves w ≤ 16 = ok.few_environment_moves w l in (
+      let few_p : m.controller_moves w ≤ 16 = ok.few.few_controller_moves w l in
+      let few_q : m.environment_moves w ≤ 16 = ok.few.few_environment_moves w l in (
         omega (arith, p, ok.some_controller_move w l),
         omega (arith, p, few_p),
         omega (arith, q, ok.some_environment_move w l),

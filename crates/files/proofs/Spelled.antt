@@ -1,7 +1,7 @@
 -- Numbers that were read one behind the other spell a list.
-use Rattle.std.proofs.Common.{◌≡◌, ℕ, zero, suc, ◌+◌, ◌-◌, ◌*◌, ◌<◌, List, [], ◌∷◌, ◌++◌, length, drop, None, Ok, Err, Result, sym, refl, ap, ◌∙◌, subst, inl, inr, suc-mul, zero-mul, arith, lit<, length-drop}
+use Rattle.std.proofs.Common.{◌≡◌, ℕ, zero, suc, ◌+◌, ◌-◌, ◌*◌, ◌<◌, List, [], ◌∷◌, ◌++◌, length, drop, None, Ok, Err, Result, sym, refl, ap, ◌∙◌, subst, suc-mul, zero-mul, arith, lit<, length-drop}
+use Rattle.std.proofs.lemmas.Grind.{common_steps}
 use Rattle.std.proofs.lemmas.List.{drop-drop, drop_all}
-use Rattle.std.proofs.lemmas.Bool.{cases_lt}
 use Rattle.std.specs.Result.{result_unwrap_or}
 use Rattle.codec.specs.Number.{number}
 use Rattle.codec.specs.declared.number.NumberFault.{NumberFault}
@@ -13,12 +13,7 @@ use Rattle.files.proofs.Skips.{skip-skip}
 
 -- an end of the bytes is what is left from the place that its length tells
 from_place : (bytes rest : List ℕ) (k : ℕ) → rest ≡ drop k bytes → rest ≡ drop (length bytes - length rest) bytes
-from_place bytes rest k e =
-    let long : length rest ≡ length bytes - k = ap length e ∙ length-drop k bytes in
-    elim (cases_lt k (length bytes)) [
-      | inl inside ↦ e ∙ ap (λ place. drop place bytes) (omega arith)
-      | inr past ↦ e ∙ drop_all k bytes past ∙ sym (drop_all (length bytes - length rest) bytes (omega arith))
-    ]
+from_place bytes rest k e = grind (arith, common_steps, drop_all, length-drop)
 
 read_by : (bytes : List ℕ) (place w : ℕ) (r : Result (ℕ × List ℕ) NumberFault) → number (drop place bytes) ≡ r → unread_by place w (placed bytes r) ≡ None
     → r ≡ Ok ((result_unwrap_or (placed bytes r) (0, place)).0, drop (result_unwrap_or (placed bytes r) (0, place)).1 bytes)
@@ -27,7 +22,7 @@ read_by bytes place w (Ok found) h none =
     let rest = from_place bytes found.1 (place + s.taken) (s.left ∙ drop-drop s.taken place bytes) in
     let with_rest : List ℕ → Result (ℕ × List ℕ) NumberFault = λ rest. Ok (found.0, rest) in
     ap with_rest rest
-read_by bytes place w (Err why) h none = let z : ◌≡◌ {A = ℕ} 0 1 = cc in absurd (omega arith)
+read_by bytes place w (Err why) h none = absurd cc
 
 -- a number without a fault is read off the bytes from its place on
 pub read_at : (bytes : List ℕ) (place w : ℕ) → unread bytes place w ≡ None → number (drop place bytes) ≡ Ok (value_at bytes place, drop (after bytes place) bytes)

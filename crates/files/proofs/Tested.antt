@@ -1,9 +1,10 @@
 -- What a file without a fault is known to hold.
-use Rattle.std.proofs.Common.{◌≡◌, ℕ, ◌+◌, ◌-◌, ◌<◌, ◌≤◌, Bool, true, false, cond, ltb, List, Some, None, Option, sym, refl, ap, ◌∙◌, subst, arith}
-use Rattle.std.proofs.lemmas.Bool.{cond-true, cond-false, le-ltb, ltb-false}
+use Rattle.std.proofs.Common.{◌≡◌, ℕ, ◌+◌, ◌-◌, ◌<◌, ◌≤◌, cond, ltb, List, Some, None, sym, refl, ap, subst, arith}
+use Rattle.std.proofs.lemmas.Bool.Decides.{nat_tests}
+use Rattle.std.proofs.lemmas.Bool.{le-ltb}
 use Rattle.systems.specs.Bounded.{within, or_else}
 use Rattle.systems.specs.Layout.{words_taken}
-use Rattle.systems.proofs.Bounded.{or_else_none, first_below_none_all, first_below_none_from, within_true, within_from}
+use Rattle.systems.proofs.Bounded.{or_else_none, first_below_none_all, first_below_none_from}
 use Rattle.files.specs.Sequence.{value_at, skip}
 use Rattle.files.specs.SystemFile.{unread, refused, fault, states_allowed, channels_allowed, moves_allowed, next_allowed, controller_place, environment_place, next_place, next_numbers, readings_fault, next_fault, row_fault, row_start, rows_fault, states_at, channels_place, channels_at, rows_place, row_at, file_words, file_fault, file_parts}
 use Rattle.files.specs.declared.check.Allowed.{Allowed}
@@ -16,19 +17,10 @@ pub record Fits (bytes : List ℕ) (place w least most : ℕ) : Type 0 where
   pub low : least ≤ value_at bytes place
   pub high : value_at bytes place ≤ most
 
-none_where : {X : Type 0} (t : Bool) (x : X) → cond t None (Some x) ≡ None → t ≡ true
-none_where true x h = refl
-none_where false x h = let z : ◌≡◌ {A = ℕ} 0 1 = cc in absurd (omega arith)
-
-none_unless : {X : Type 0} (t : Bool) (x : X) → cond t (Some x) None ≡ None → t ≡ false
-none_unless true x h = let z : ◌≡◌ {A = ℕ} 0 1 = cc in absurd (omega arith)
-none_unless false x h = refl
-
 pub refused_none : (bytes : List ℕ) (place w : ℕ) (allowed : Allowed) → refused bytes place w allowed ≡ None → Fits bytes place w allowed.least allowed.most
 refused_none bytes place w allowed h =
     let both = or_else_none (unread bytes place w) (cond (within allowed.least allowed.most (value_at bytes place)) None (Some (fault allowed.otherwise place w))) h in
-    let range = within_true allowed.least allowed.most (value_at bytes place) (none_where (within allowed.least allowed.most (value_at bytes place)) (fault allowed.otherwise place w) both.1) in
-    record { read = both.0; low = range.0; high = range.1 }
+    record { read = both.0; low = grind (arith, nat_tests, both.1); high = grind (arith, nat_tests, both.1) }
 
 -- the row of state w
 pub record RowTested (bytes : List ℕ) (n c w start : ℕ) : Type 0 where
@@ -66,9 +58,8 @@ rows_tested bytes n c start h w l =
 
 pub file_tested : (bytes : List ℕ) (place room : ℕ) → file_fault bytes place room ≡ None → FileTested bytes place room
 file_tested bytes place room h =
-    let short = ltb room (file_words bytes place) in
     let channels = refused bytes (channels_place bytes place) 0 channels_allowed in
-    let memory = cond short (Some (fault TooShort (channels_place bytes place) 0)) None in
+    let memory = cond (ltb room (file_words bytes place)) (Some (fault TooShort (channels_place bytes place) 0)) None in
     let rows = rows_fault bytes (states_at bytes place) (channels_at bytes place) (rows_place bytes place) in
     let first = or_else_none (refused bytes place 0 states_allowed) (or_else channels (or_else memory rows)) h in
     let second = or_else_none channels (or_else memory rows) first.1 in
@@ -76,41 +67,36 @@ file_tested bytes place room h =
     record {
       states = refused_none bytes place 0 states_allowed first.0;
       channels = refused_none bytes (channels_place bytes place) 0 channels_allowed second.0;
-      room_enough = ltb-false room (file_words bytes place) (none_unless short (fault TooShort (channels_place bytes place) 0) third.0);
+      room_enough = grind (arith, nat_tests, third.0);
       rows = rows_tested bytes (states_at bytes place) (channels_at bytes place) (rows_place bytes place) third.1;
     }
 
 -- and the other way round
-none_from : {X : Type 0} (a b : Option X) → a ≡ None → b ≡ None → or_else a b ≡ None
-none_from a b e f = ap (λ o. or_else o b) e ∙ f
-
 refused_from : (bytes : List ℕ) (place w : ℕ) (allowed : Allowed) → Fits bytes place w allowed.least allowed.most → refused bytes place w allowed ≡ None
 refused_from bytes place w allowed ok =
-    none_from (unread bytes place w) (cond (within allowed.least allowed.most (value_at bytes place)) None (Some (fault allowed.otherwise place w)))
-    ok.read (cond-true _ _ _ (within_from allowed.least allowed.most (value_at bytes place) ok.low ok.high))
+    let low = ok.low in
+    let high = ok.high in
+    rw ok.read (grind (arith, nat_tests))
 
 row_fault_from : (bytes : List ℕ) (n c w start : ℕ) → RowTested bytes n c w start → row_fault bytes n c w start ≡ None
 row_fault_from bytes n c w start ok =
-    let controller = refused bytes (controller_place bytes c start) w moves_allowed in
-    let environment = refused bytes (environment_place bytes c start) w moves_allowed in
-    let next = next_fault bytes n w (next_place bytes c start) (next_numbers bytes c start) in
-    none_from (readings_fault bytes w start c) (or_else controller (or_else environment next)) (first_below_none_from c (λ j. unread bytes (skip bytes j start) w) ok.readings)
-    (none_from controller (or_else environment next) (refused_from bytes (controller_place bytes c start) w moves_allowed ok.controller)
-    (none_from environment next (refused_from bytes (environment_place bytes c start) w moves_allowed ok.environment)
+    rw (
+      first_below_none_from c (λ j. unread bytes (skip bytes j start) w) ok.readings,
+      refused_from bytes (controller_place bytes c start) w moves_allowed ok.controller,
+      refused_from bytes (environment_place bytes c start) w moves_allowed ok.environment,
+    )
     (first_below_none_from (next_numbers bytes c start) (λ j. refused bytes (skip bytes j (next_place bytes c start)) w (next_allowed n))
-    (λ j l. refused_from bytes (skip bytes j (next_place bytes c start)) w (next_allowed n) (ok.next j l)))))
+    (λ j l. refused_from bytes (skip bytes j (next_place bytes c start)) w (next_allowed n) (ok.next j l)))
 
 pub file_fault_from : (bytes : List ℕ) (place room : ℕ) → FileTested bytes place room → file_fault bytes place room ≡ None
 file_fault_from bytes place room ok =
-    let n = states_at bytes place in
-    let c = channels_at bytes place in
-    let channels = refused bytes (channels_place bytes place) 0 channels_allowed in
-    let memory = cond (ltb room (file_words bytes place)) (Some (fault TooShort (channels_place bytes place) 0)) None in
-    let rows = rows_fault bytes n c (rows_place bytes place) in
-    none_from (refused bytes place 0 states_allowed) (or_else channels (or_else memory rows)) (refused_from bytes place 0 states_allowed ok.states)
-    (none_from channels (or_else memory rows) (refused_from bytes (channels_place bytes place) 0 channels_allowed ok.channels)
-    (none_from memory rows (cond-false _ _ _ (le-ltb room (file_words bytes place) ok.room_enough))
-    (first_below_none_from n (λ w. row_fault bytes n c w (row_at bytes place w)) (λ w l. row_fault_from bytes n c w (row_at bytes place w) (ok.rows w l)))))
+    rw (
+      refused_from bytes place 0 states_allowed ok.states,
+      refused_from bytes (channels_place bytes place) 0 channels_allowed ok.channels,
+      le-ltb room (file_words bytes place) ok.room_enough,
+    )
+    (first_below_none_from (states_at bytes place) (λ w. row_fault bytes (states_at bytes place) (channels_at bytes place) w (row_at bytes place w))
+    (λ w l. row_fault_from bytes (states_at bytes place) (channels_at bytes place) w (row_at bytes place w) (ok.rows w l)))
 
 -- a file that is granted the words from a place on, in a memory of so many
 pub record Granted (bytes : List ℕ) (place long at : ℕ) (file : TestedFile) : Type 0 where
@@ -130,3 +116,7 @@ granted bytes place long at file none is =
       inside = omega (arith, tested.room_enough);
       words_are = subst (λ f. f.words ≡ words_taken f.sizes.states f.sizes.channels) (sym is) refl;
     }
+
+pub inside_memory : (bytes : List ℕ) (place long at : ℕ) (file : TestedFile)
+    → file_fault bytes place (long - at) ≡ None → file ≡ file_parts bytes place → at + file.words ≤ long
+inside_memory bytes place long at file none is = (granted bytes place long at file none is).inside

@@ -1,6 +1,5 @@
 -- Bytes that spell a list are read to it, number by number.
-use Rattle.std.proofs.Common.{◌≡◌, ℕ, zero, suc, ◌+◌, ◌-◌, ◌*◌, ◌<◌, List, [], ◌∷◌, ◌++◌, length, drop, None, Ok, sym, refl, ap, ◌∙◌, subst, inl, inr, suc-mul, zero-mul, arith}
-use Rattle.std.proofs.lemmas.Bool.{cases_lt}
+use Rattle.std.proofs.Common.{◌≡◌, ℕ, zero, suc, ◌+◌, ◌-◌, ◌*◌, ◌<◌, List, [], ◌∷◌, ◌++◌, length, drop, None, Ok, sym, refl, ap, ◌∙◌, subst, suc-mul, zero-mul, below_more, arith}
 use Rattle.codec.specs.Number.{number}
 use Rattle.systems.specs.Bounded.{joined_below, listed_below}
 use Rattle.files.specs.Sequence.{value_at, after, skip, nth, Spells}
@@ -48,14 +47,8 @@ unspell_listed bytes start w (suc k) gives from rest here h =
     let before = unspell_listed bytes start w k gives from s.0 here s.1 in
     let last = unspell_one bytes (skip bytes k start) w (gives k) s.0 s.2.0 before.behind s.2.1 in
     record {
-      read = λ j l. elim (cases_lt j k) [
-        | inl less ↦ before.read j less
-        | inr more ↦ let same : k ≡ j = omega arith in subst (λ i. unread bytes (skip bytes i start) w ≡ None) same last.read
-      ];
-      value = λ j l. elim (cases_lt j k) [
-        | inl less ↦ before.value j less
-        | inr more ↦ let same : k ≡ j = omega arith in subst (λ i. nth bytes i start ≡ gives i) same last.value
-      ];
+      read = λ j l. grind (arith, before.read, last.read);
+      value = λ j l. grind (arith, before.value, last.value);
       behind = subst (Here bytes (skip bytes (suc k) start)) s.2.2 last.behind;
     }
 
@@ -77,19 +70,10 @@ unspell_rows_of bytes start w q (suc p) gives from rest here h =
     let before = unspell_rows_of bytes start w q p gives from s.0 here s.1 in
     let mid = skip bytes (p * q) start in
     let last = unspell_listed bytes mid w q (gives p) s.0 rest before.behind s.2 in
-    let at : (b : ℕ) → skip bytes b mid ≡ skip bytes (p * q + b) start = λ b. sym (skip-skip bytes (p * q) b start) in
     record {
-      read = λ a b l m. elim (cases_lt a p) [
-        | inl less ↦ before.read a b less m
-        | inr more ↦
-            let same : p ≡ a = omega arith in
-            subst (λ i. unread bytes (skip bytes (i * q + b) start) w ≡ None) same (subst (λ place. unread bytes place w ≡ None) (at b) (last.read b m))
-      ];
-      value = λ a b l m. elim (cases_lt a p) [
-        | inl less ↦ before.value a b less m
-        | inr more ↦
-            let same : p ≡ a = omega arith in
-            subst (λ i. nth bytes (i * q + b) start ≡ gives i b) same (ap (value_at bytes) (sym (at b)) ∙ last.value b m)
-      ];
-      behind = subst (λ place. Here bytes place rest) (at q ∙ ap (λ k. skip bytes k start) (sym (suc-mul p q))) last.behind;
+      read = λ a b l m.
+          below_more (λ i. unread bytes (skip bytes (i * q + b) start) w ≡ None) p (λ i h. before.read i b h m) (rw (skip-skip bytes (p * q) b start) (last.read b m)) a (omega arith);
+      value = λ a b l m.
+          below_more (λ i. nth bytes (i * q + b) start ≡ gives i b) p (λ i h. before.value i b h m) (rw (skip-skip bytes (p * q) b start) (last.value b m)) a (omega arith);
+      behind = rw (suc-mul p q, skip-skip bytes (p * q) q start) last.behind;
     }

@@ -4,6 +4,11 @@ use Rattle.std.specs.Result.{result_unwrap_or}
 use Rattle.codec.specs.Number.{number}
 use Rattle.codec.specs.declared.number.NumberFault.{NumberFault}
 
+-- bytes, and the place in them where the next number begins
+pub record Cursor : Type 0 where
+  pub bytes : List ℕ
+  pub place : ℕ
+
 -- a number with its rest, as a number with the place where the rest begins
 abbrev pub placed : List ℕ → Result (ℕ × List ℕ) NumberFault → Result (ℕ × ℕ) NumberFault
 placed bytes (Ok found) = Ok (found.0, length bytes - length found.1)
@@ -12,6 +17,11 @@ placed bytes (Err fault) = Err fault
 -- the number at a place and the place behind it; past the end the bytes have ended
 abbrev pub number_at : List ℕ → ℕ → Result (ℕ × ℕ) NumberFault
 number_at bytes place = placed bytes (number (drop place bytes))
+
+-- a number without the place behind it
+abbrev pub number_alone : Result (ℕ × ℕ) NumberFault → Result ℕ NumberFault
+number_alone (Ok found) = Ok found.0
+number_alone (Err fault) = Err fault
 
 -- the number at a place, 0 where there is none
 unfoldable pub value_at : List ℕ → ℕ → ℕ

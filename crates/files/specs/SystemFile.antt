@@ -13,22 +13,27 @@ use Rattle.files.specs.declared.fault.Reason.TheVariants.{Number, States, Channe
 use Rattle.files.specs.declared.fault.ReadFault.{ReadFault}
 use Rattle.files.specs.declared.system_read.SystemRead.{SystemRead}
 
--- what the numbers of a file may be, and why another is refused
+-- what the number of states may be, and why another is refused
 abbrev pub states_allowed : Allowed
 states_allowed = record { least = 1; most = 256; otherwise = States }
 
+-- what the number of channels may be
 abbrev pub channels_allowed : Allowed
 channels_allowed = record { least = 1; most = 8; otherwise = Channels }
 
+-- what a number of moves may be
 abbrev pub moves_allowed : Allowed
 moves_allowed = record { least = 1; most = 16; otherwise = Moves }
 
+-- what a next state may be, where there are n states
 abbrev pub next_allowed : ℕ → Allowed
 next_allowed n = record { least = 0; most = n - 1; otherwise = NextState }
 
+-- a number that is refused, by why, where it begins and in which row it is
 abbrev pub fault : Reason → ℕ → ℕ → ReadFault
 fault reason place w = record { reason = reason; place = place; state = w }
 
+-- the fault of an answer of number_at, if it is one
 abbrev pub unread_by : ℕ → ℕ → Result (ℕ × ℕ) NumberFault → Option ReadFault
 unread_by place w (Ok found) = None
 unread_by place w (Err why) = Some (fault (Number why) place w)
@@ -37,25 +42,29 @@ unread_by place w (Err why) = Some (fault (Number why) place w)
 abbrev pub unread : List ℕ → ℕ → ℕ → Option ReadFault
 unread bytes place w = unread_by place w (number_at bytes place)
 
--- the same, if it cannot be read or is not allowed
+-- the fault of the number at a place, if it cannot be read or is not allowed
 abbrev pub refused : List ℕ → ℕ → ℕ → Allowed → Option ReadFault
 refused bytes place w allowed =
     or_else (unread bytes place w)
     (cond (within allowed.least allowed.most (value_at bytes place)) None (Some (fault allowed.otherwise place w)))
 
--- the parts of the row of a state that begins at start, for c channels: the readings, p, q and the next states
+-- a row of c channels that begins at start has the readings, p, q and the next states; this is where p begins
 abbrev pub controller_place : List ℕ → ℕ → ℕ → ℕ
 controller_place bytes c start = skip bytes c start
 
+-- where q begins
 abbrev pub environment_place : List ℕ → ℕ → ℕ → ℕ
 environment_place bytes c start = after bytes (controller_place bytes c start)
 
+-- where the next states begin
 abbrev pub next_place : List ℕ → ℕ → ℕ → ℕ
 next_place bytes c start = after bytes (environment_place bytes c start)
 
+-- how many next states there are
 abbrev pub next_numbers : List ℕ → ℕ → ℕ → ℕ
 next_numbers bytes c start = value_at bytes (controller_place bytes c start) * value_at bytes (environment_place bytes c start)
 
+-- the place behind the row
 abbrev pub row_end : List ℕ → ℕ → ℕ → ℕ
 row_end bytes c start = skip bytes (next_numbers bytes c start) (next_place bytes c start)
 
@@ -89,19 +98,23 @@ row_start bytes c start (suc w) = row_end bytes c (row_start bytes c start w)
 abbrev pub rows_fault : List ℕ → ℕ → ℕ → ℕ → Option ReadFault
 rows_fault bytes n c start = first_below n λ w. row_fault bytes n c w (row_start bytes c start w)
 
--- the parts of a file that begins at a place: n, c and the rows
+-- a file that begins at a place has n, c and the rows; this is n
 abbrev pub states_at : List ℕ → ℕ → ℕ
 states_at bytes place = value_at bytes place
 
+-- where c begins
 abbrev pub channels_place : List ℕ → ℕ → ℕ
 channels_place bytes place = after bytes place
 
+-- the number of channels, c
 abbrev pub channels_at : List ℕ → ℕ → ℕ
 channels_at bytes place = value_at bytes (channels_place bytes place)
 
+-- where the rows begin
 abbrev pub rows_place : List ℕ → ℕ → ℕ
 rows_place bytes place = after bytes (channels_place bytes place)
 
+-- where the row of state w begins
 abbrev pub row_at : List ℕ → ℕ → ℕ → ℕ
 row_at bytes place w = row_start bytes (channels_at bytes place) (rows_place bytes place) w
 

@@ -1,11 +1,11 @@
 //! The test of a whole system file, number by number, before a word is written.
-ghost use Rattle.std.specs.Prelude.{◌≡◌};
+ghost use Rattle.std.specs.Prelude.{◌≡◌, OnOk};
 ghost use Rattle.files.specs.Answer.{Unless};
 ghost use Rattle.files.specs.Sequence.{value_at, after, skip};
 ghost use Rattle.files.specs.SystemFile.{unread, refused, next_allowed, readings_fault, next_fault, row_fault, row_end, row_start, rows_fault, file_fault, file_parts};
 
 use crate::fault::{ReadFault, Reason};
-use crate::sequence::read_number_at;
+use crate::sequence::Reader;
 use systems::{MAX_CHANNELS, MAX_MOVES, MAX_STATES, row_place};
 
 /// What a number may be, and why another is refused.
@@ -44,49 +44,46 @@ const MOVES_ALLOWED: Allowed = Allowed {
     otherwise: Reason::Moves,
 };
 
-/// The number at the place in the row of the state, and the place behind it.
-fn number(bytes: &[u8], place: usize, state: u16) -> Result<(u16, usize), ReadFault>
-    ensures { Unless (unread bytes.now place state) (value_at bytes.now place, after bytes.now place) result }
+/// Reads the next number, in the row of the state.
+#[tactic(auto, unfolding(crate::specs::Sequence::value_at))]
+fn number(reader: &mut Reader, state: u16) -> Result<u16, ReadFault>
+    ensures answer { Unless (unread reader.old.bytes reader.old.place state) (value_at reader.old.bytes reader.old.place) result }
+    ensures place { reader.new ≡ record reader.old { place = after reader.old.bytes reader.old.place } }
 {
-    match read_number_at(bytes, place) {
-        Ok(found) => Ok(found),
-        Err(why) => Err(ReadFault {
-            reason: Reason::Number(why),
-            place,
-            state,
-        }),
-    }
+    let place = reader.place();
+    reader.number().map_err(|why| ReadFault {
+        reason: Reason::Number(why),
+        place,
+        state,
+    })
 }
 
 /// The same, where the number is allowed.
-fn allowed_number(
-    bytes: &[u8],
-    place: usize,
-    state: u16,
-    allowed: Allowed,
-) -> Result<(u16, usize), ReadFault>
-    ensures { Unless (refused bytes.now place state allowed) (value_at bytes.now place, after bytes.now place) result }
+fn allowed_number(reader: &mut Reader, state: u16, allowed: Allowed) -> Result<u16, ReadFault>
+    ensures answer { Unless (refused reader.old.bytes reader.old.place state allowed) (value_at reader.old.bytes reader.old.place) result }
+    ensures place { reader.new ≡ record reader.old { place = after reader.old.bytes reader.old.place } }
 {
-    let (value, behind) = number(bytes, place, state)?;
-    if value < allowed.least || value > allowed.most {
+    let place = reader.place();
+    let value = number(reader, state)?;
+    if !(allowed.least..=allowed.most).contains(&value) {
         return Err(ReadFault {
             reason: allowed.otherwise,
             place,
             state,
         });
     }
-    Ok((value, behind))
+    Ok(value)
 }
 
-/// The place behind the readings at a state.
-fn check_readings(bytes: &[u8], start: usize, state: u16, count: u16) -> Result<usize, ReadFault>
-    ensures { Unless (readings_fault bytes.now state start count) (skip bytes.now count start) result }
+/// Reads the readings at a state.
+fn check_readings(reader: &mut Reader, state: u16, count: u16) -> Result<(), ReadFault>
+    ensures answer { Unless (readings_fault reader.old.bytes state reader.old.place count) tt result }
+    ensures place { OnOk result (reader.new ≡ record reader.old { place = skip reader.old.bytes count reader.old.place }) }
 {
-    let mut place = start;
     for _channel in 0..count {
-        (_, place) = number(bytes, place, state)?;
+        number(reader, state)?;
     }
-    Ok(place)
+    Ok(())
 }
 
 /// What a next state may be, where there are so many states.
@@ -100,49 +97,49 @@ fn next_allowed(states: u16) -> Allowed
     }
 }
 
-/// The place behind the next states at a state.
+/// Reads the next states at a state.
+// Not one function with `check_readings`: any number may stand for a reading, so that there is no reason to refuse one by.
 fn check_next_states(
-    bytes: &[u8],
-    start: usize,
+    reader: &mut Reader,
     state: u16,
     states: u16,
     count: usize,
-) -> Result<usize, ReadFault>
-    ensures { Unless (next_fault bytes.now states state start count) (skip bytes.now count start) result }
+) -> Result<(), ReadFault>
+    ensures answer { Unless (next_fault reader.old.bytes states state reader.old.place count) tt result }
+    ensures place { OnOk result (reader.new ≡ record reader.old { place = skip reader.old.bytes count reader.old.place }) }
 {
     let allowed = next_allowed(states);
-    let mut place = start;
     for _pair in 0..count {
-        (_, place) = allowed_number(bytes, place, state, allowed)?;
+        allowed_number(reader, state, allowed)?;
     }
-    Ok(place)
+    Ok(())
 }
 
-/// The place behind the row of a state.
-fn check_row(bytes: &[u8], start: usize, state: u16, sizes: Sizes) -> Result<usize, ReadFault>
-    ensures { Unless (row_fault bytes.now sizes.states sizes.channels state start) (row_end bytes.now sizes.channels start) result }
+/// Reads the row of a state.
+fn check_row(reader: &mut Reader, state: u16, sizes: Sizes) -> Result<(), ReadFault>
+    ensures answer { Unless (row_fault reader.old.bytes sizes.states sizes.channels state reader.old.place) tt result }
+    ensures place { OnOk result (reader.new ≡ record reader.old { place = row_end reader.old.bytes sizes.channels reader.old.place }) }
 {
-    let place = check_readings(bytes, start, state, sizes.channels)?;
-    let (controller, place) = allowed_number(bytes, place, state, MOVES_ALLOWED)?;
-    let (environment, place) = allowed_number(bytes, place, state, MOVES_ALLOWED)?;
+    check_readings(reader, state, sizes.channels)?;
+    let controller = allowed_number(reader, state, MOVES_ALLOWED)?;
+    let environment = allowed_number(reader, state, MOVES_ALLOWED)?;
     check_next_states(
-        bytes,
-        place,
+        reader,
         state,
         sizes.states,
         usize::from(controller) * usize::from(environment),
     )
 }
 
-/// The place behind the rows of all states.
-fn check_rows(bytes: &[u8], start: usize, sizes: Sizes) -> Result<usize, ReadFault>
-    ensures { Unless (rows_fault bytes.now sizes.states sizes.channels start) (row_start bytes.now sizes.channels start sizes.states) result }
+/// Reads the rows of all states.
+fn check_rows(reader: &mut Reader, sizes: Sizes) -> Result<(), ReadFault>
+    ensures answer { Unless (rows_fault reader.old.bytes sizes.states sizes.channels reader.old.place) tt result }
+    ensures place { OnOk result (reader.new ≡ record reader.old { place = row_start reader.old.bytes sizes.channels reader.old.place sizes.states }) }
 {
-    let mut place = start;
     for state in 0..sizes.states {
-        place = check_row(bytes, place, state, sizes)?;
+        check_row(reader, state, sizes)?;
     }
-    Ok(place)
+    Ok(())
 }
 
 /// The parts of a file that has no fault.
@@ -161,8 +158,10 @@ pub(crate) struct TestedFile {
 pub(crate) fn check_file(bytes: &[u8], place: usize, room: usize) -> Result<TestedFile, ReadFault>
     ensures { Unless (file_fault bytes.now place room) (file_parts bytes.now place) result }
 {
-    let (states, behind_states) = allowed_number(bytes, place, 0, STATES_ALLOWED)?;
-    let (channels, start) = allowed_number(bytes, behind_states, 0, CHANNELS_ALLOWED)?;
+    let mut reader = Reader::new(bytes, place);
+    let states = allowed_number(&mut reader, 0, STATES_ALLOWED)?;
+    let behind_states = reader.place();
+    let channels = allowed_number(&mut reader, 0, CHANNELS_ALLOWED)?;
     let words = row_place(channels, states);
     if room < words {
         return Err(ReadFault {
@@ -171,12 +170,13 @@ pub(crate) fn check_file(bytes: &[u8], place: usize, room: usize) -> Result<Test
             state: 0,
         });
     }
+    let start = reader.place();
     let sizes = Sizes { states, channels };
-    let end = check_rows(bytes, start, sizes)?;
+    check_rows(&mut reader, sizes)?;
     Ok(TestedFile {
         sizes,
         words,
         start,
-        end,
+        end: reader.place(),
     })
 }

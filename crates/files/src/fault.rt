@@ -4,8 +4,10 @@ ghost use Rattle.files.specs.Refusal.{refusal, fault_text};
 
 use codec::NumberFault;
 use std::fmt;
+use systems::LayoutFault;
 
 /// Why a number of a system file is refused.
+// Cases of its own beside those of a layout, since they are told of a file's numbers.
 #[derive(Clone, Copy, Debug, PartialEq, Eq)]
 pub enum Reason {
     /// It cannot be read.
@@ -39,11 +41,11 @@ impl Reason {
     {
         match self {
             Reason::Number(fault) => *fault as u8,
-            Reason::States => 18,
-            Reason::Channels => 19,
-            Reason::TooShort => 20,
-            Reason::Moves => 21,
-            Reason::NextState => 22,
+            Reason::States => LayoutFault::States as u8,
+            Reason::Channels => LayoutFault::Channels as u8,
+            Reason::TooShort => LayoutFault::TooShort as u8,
+            Reason::Moves => LayoutFault::Moves as u8,
+            Reason::NextState => LayoutFault::NextState as u8,
         }
     }
 }

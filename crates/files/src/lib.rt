@@ -4,8 +4,10 @@
 mod check;
 mod encode;
 mod fault;
+mod put;
 mod rows;
 mod sequence;
+mod small;
 mod system_read;
 mod system_write;
 

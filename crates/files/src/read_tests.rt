@@ -5,13 +5,17 @@ use std::alloc::{AllocError, Global};
 use std::process::Abort;
 use std::test::Fail;
 
+/// What each word holds before a file is read.
 const PATTERN: u16 = 0xABCD;
+
+/// More words than the systems here take, with those in front of them.
+const ENOUGH: usize = 700;
 
 /// Where the system is put.
 const AT: usize = 100;
 
 /// Two states of one channel: the first has two moves against one, the second one against two.
-const TWO_STATES: [u8; 13] = [2, 1, 10, 2, 1, 0, 1, 0x83, 0x01, 1, 2, 1, 0];
+pub(crate) const TWO_STATES: [u8; 13] = [2, 1, 10, 2, 1, 0, 1, 0x83, 0x01, 1, 2, 1, 0];
 
 /// How many words that system takes.
 const TWO_STATES_WORDS: usize = 520;
@@ -38,18 +42,10 @@ fn read(
     Ok(read)
 }
 
-fn refused(reason: Reason, place: usize, state: u16) -> Result<SystemRead, ReadFault> {
-    Err(ReadFault {
-        reason,
-        place,
-        state,
-    })
-}
-
 #[test]
 fn a_system_is_put_into_the_middle(rt: HostRuntime) -> Result<(), Fail> {
     let heap = rt.alloc();
-    let mut memory = pattern(heap, 700)?;
+    let mut memory = pattern(heap, ENOUGH)?;
     let read = read_system(&TWO_STATES, 0, &mut memory, AT);
     assert_eq!(rt;
         read,
@@ -58,7 +54,7 @@ fn a_system_is_put_into_the_middle(rt: HostRuntime) -> Result<(), Fail> {
             end: 13,
         })
     );
-    assert!(rt; memory.len() == 700);
+    assert!(rt; memory.len() == ENOUGH);
     assert_eq!(rt; memory[AT - 1], PATTERN);
     assert_eq!(rt; memory[AT], 2);
     assert_eq!(rt; memory[AT + 1], 1);
@@ -77,7 +73,7 @@ fn a_system_is_put_into_the_middle(rt: HostRuntime) -> Result<(), Fail> {
 #[test]
 fn a_cut_file_has_ended(rt: HostRuntime) -> Result<(), Fail> {
     for cut in 0..TWO_STATES.len() {
-        let read = read(&rt, rt.alloc(), &TWO_STATES[0..cut], 700)?;
+        let read = read(&rt, rt.alloc(), &TWO_STATES[..cut], ENOUGH)?;
         let Err(fault) = read else {
             return Err(Fail::new("a cut file was read"));
         };
@@ -90,52 +86,36 @@ fn a_cut_file_has_ended(rt: HostRuntime) -> Result<(), Fail> {
 
 #[test]
 fn each_fault_has_its_place_and_state(rt: HostRuntime) -> Result<(), Fail> {
-    let heap = rt.alloc();
-    assert_eq!(rt;
-        read(&rt, heap, &[0, 9], 700)?,
-        refused(Reason::States, 0, 0)
-    );
-    assert_eq!(rt;
-        read(&rt, heap, &[0x81, 0x02, 1], 700)?,
-        refused(Reason::States, 0, 0)
-    );
-    assert_eq!(rt;
-        read(&rt, heap, &[1, 0], 700)?,
-        refused(Reason::Channels, 1, 0)
-    );
-    assert_eq!(rt;
-        read(&rt, heap, &[0x80, 0x02, 9], 700)?,
-        refused(Reason::Channels, 2, 0)
-    );
-    assert_eq!(rt;
-        read(&rt, heap, &TWO_STATES, 619)?,
-        refused(Reason::TooShort, 1, 0)
-    );
-    assert_eq!(rt;
-        read(&rt, heap, &TWO_STATES, 99)?,
-        refused(Reason::TooShort, 1, 0)
-    );
-    assert_eq!(rt;
-        read(&rt, heap, &[2, 1, 10, 2, 1, 0, 1, 3, 0], 700)?,
-        refused(Reason::Moves, 8, 1)
-    );
-    assert_eq!(rt;
-        read(&rt, heap, &[2, 1, 10, 2, 17], 700)?,
-        refused(Reason::Moves, 4, 0)
-    );
-    assert_eq!(rt;
-        read(&rt, heap, &[2, 1, 10, 2, 1, 0, 2], 700)?,
-        refused(Reason::NextState, 6, 0)
-    );
     let too_long = Reason::Number(NumberFault::TooLong);
-    assert_eq!(rt;
-        read(&rt, heap, &[2, 1, 0x80, 0x80, 0x80], 700)?,
-        refused(too_long, 2, 0)
-    );
     let too_large = Reason::Number(NumberFault::TooLarge);
-    assert_eq!(rt;
-        read(&rt, heap, &[2, 1, 10, 2, 1, 0, 1, 0x80, 0x80, 4], 700)?,
-        refused(too_large, 7, 1)
-    );
+    let cases: [(&[u8], usize, Reason, usize, u16); 11] = [
+        (&[0, 9], ENOUGH, Reason::States, 0, 0),
+        (&[0x81, 0x02, 1], ENOUGH, Reason::States, 0, 0),
+        (&[1, 0], ENOUGH, Reason::Channels, 1, 0),
+        (&[0x80, 0x02, 9], ENOUGH, Reason::Channels, 2, 0),
+        (&TWO_STATES, 619, Reason::TooShort, 1, 0),
+        (&TWO_STATES, 99, Reason::TooShort, 1, 0),
+        (&[2, 1, 10, 2, 1, 0, 1, 3, 0], ENOUGH, Reason::Moves, 8, 1),
+        (&[2, 1, 10, 2, 17], ENOUGH, Reason::Moves, 4, 0),
+        (&[2, 1, 10, 2, 1, 0, 2], ENOUGH, Reason::NextState, 6, 0),
+        (&[2, 1, 0x80, 0x80, 0x80], ENOUGH, too_long, 2, 0),
+        (
+            &[2, 1, 10, 2, 1, 0, 1, 0x80, 0x80, 4],
+            ENOUGH,
+            too_large,
+            7,
+            1,
+        ),
+    ];
+    for (bytes, words, reason, place, state) in cases {
+        assert_eq!(rt;
+            read(&rt, rt.alloc(), bytes, words)?,
+            Err(ReadFault {
+                reason,
+                place,
+                state,
+            })
+        );
+    }
     Ok(())
 }

@@ -9,6 +9,7 @@ ghost use Rattle.files.specs.Words.{put_at, system_words};
 use crate::check::{TestedFile, check_file};
 use crate::fault::ReadFault;
 use crate::rows::write_words;
+use crate::sequence::Reader;
 
 /// What reading a system file took and gave.
 #[derive(Clone, Copy, Debug, PartialEq, Eq)]
@@ -22,6 +23,7 @@ pub struct SystemRead {
 /// Reads the system file that begins at the byte place into the words from `at` on.
 ///
 /// The whole file is tested before the first word is written, so a refused read changes no word.
+// Bytes and place by themselves, here and below: the clauses name them.
 pub fn read_system(
     bytes: &[u8],
     place: usize,
@@ -42,16 +44,17 @@ pub fn read_system(
 }
 
 /// Writes the system of a file that has no fault into the words from `at` on.
+#[tactic(auto, using(crate::proofs::Tested::inside_memory))]
 fn lay_out(bytes: &[u8], place: usize, file: TestedFile, memory: &mut [u16], at: usize)
-    requires { (file_fault bytes.now place (length memory.old - at) ≡ None) × (file ≡ file_parts bytes.now place) }
+    requires no_fault { file_fault bytes.now place (length memory.old - at) ≡ None }
+    requires parts { file ≡ file_parts bytes.now place }
     ensures words { memory.new ≡ put_at memory.old at (system_words (described bytes.now place)) }
     ensures system { stored (drop at memory.new) ≡ described bytes.now place }
     ensures filed { ReadsAsFiled bytes.now place file.end (drop at memory.new) }
 {
     write_words(
         &mut memory[at..at + file.words],
-        bytes,
-        file.start,
+        &mut Reader::new(bytes, file.start),
         file.sizes,
     );
 }

@@ -1,4 +1,5 @@
 //! Systems of every kind, written and read back.
+use crate::read_tests::TWO_STATES;
 use crate::{SystemWriteFault, read_system, write_system};
 use std::alloc::Global;
 use std::process::Abort;
@@ -13,9 +14,6 @@ const ROOM: usize = 2_000;
 
 /// What the bytes hold before a system is written.
 const PATTERN: u8 = 0xEE;
-
-/// Two states of one channel: the first has two moves against one, the second one against two.
-const TWO_STATES: [u8; 13] = [2, 1, 10, 2, 1, 0, 1, 0x83, 0x01, 1, 2, 1, 0];
 
 /// Sees that two systems give the same answers.
 fn check_same<A: System, B: System>(rt: &impl Abort, one: &A, other: &B) {

@@ -1,9 +1,10 @@
 use Rattle.std.proofs.Common.{◌≡◌, None}
+use Rattle.files.specs.SystemFile.{row_start, row_fault}
 use Rattle.systems.specs.Bounded.{first_below}
-use Rattle.files.specs.SystemFile.{row_fault, row_start}
 use Rattle.files.proofs.check.check_rows.Given as goal
 
 abbrev pub invariant-loop-state : goal.invariant-loop-state
-invariant-loop-state l =
-    (l.place ≡ row_start l.bytes l.sizes.channels l.start l.state)
-    × (first_below l.state (λ w. row_fault l.bytes l.sizes.states l.sizes.channels w (row_start l.bytes l.sizes.channels l.start w)) ≡ None)
+invariant-loop-state l = record {
+  reads : l.reader ≡ record l.initial.reader { place = row_start l.initial.reader.bytes l.sizes.channels l.initial.reader.place l.state };
+  no_fault : first_below l.state (λ w. row_fault l.initial.reader.bytes l.sizes.states l.sizes.channels w (row_start l.initial.reader.bytes l.sizes.channels l.initial.reader.place w)) ≡ None;
+}

@@ -1,30 +1,34 @@
-use Rattle.std.proofs.Common.{◌≡◌, ℕ, ◌+◌, ◌<◌, Bool, cond, ◌≢◌, length, ap, ◌∙◌, arith, get_or-set_other, get_or-set_same, below_more}
-use Rattle.files.specs.Sequence.{value_at, after, skip}
-use Rattle.files.specs.Words.{next_cell}
-use Rattle.files.proofs.Grid.{next_step, used_all, used_before}
+use Rattle.std.proofs.Common.{◌≡◌, ◌+◌, true, false, refl, sym, ◌∙◌, arith}
+use Rattle.std.proofs.lemmas.Grind.{common_steps}
+use Rattle.files.specs.Sequence.{skip, Cursor}
+use Rattle.files.specs.Words.{is_used, next_cell}
+use Rattle.files.proofs.Grid.{used_before, used_value, used_behind, unused_value, unused_behind}
 use Rattle.files.proofs.rows.write_next_states.Goals as goal
+use Rattle.files.proofs.rows.write_next_states.Goals.{then-is_used, else-is_used}
 
 pub loop-i-preserved : goal.loop-i-preserved
 loop-i-preserved c =
-    let bytes = c.args.bytes.now in
-    let place = c.loop-i.place in
-    let taken : Bool → ℕ × ℕ = λ used. cond used (value_at bytes place, after bytes place) (0, place) in
-    let step : ◌≡◌ {A = ℕ × ℕ} c.next_state.result (next_cell bytes c.args.controller c.args.environment c.args.start c.loop-i.i, skip bytes (used_before c.args.controller c.args.environment (c.loop-i.i + 1)) c.args.start) =
-    c.next_state.ensures ∙ ap taken c.is_used.ensures
-    ∙ next_step bytes c.args.start c.args.controller c.args.environment c.loop-i.i place c.requires.1.1 c.loop-i.invariant.0 in (
-      ap (λ found. found.1) step,
-      below_more _ _
-          (λ k h. let ne : k ≢ c.loop-i.i = omega arith in rw get_or-set_other (c.loop-i.invariant.1 k h))
-          (let lt : c.loop-i.i < length c.loop-i.words = omega arith in rw get_or-set_same (ap (λ found. found.0) step)),
-    )
-
-pub returns : goal.returns
-returns c =
-    let bytes = c.args.bytes.now in
+    let bytes = c.args.reader.now.bytes in
+    let start = c.args.reader.now.place in
     let p = c.args.controller in
     let q = c.args.environment in
-    let all : c.loop-i.i ≡ 256 = omega arith in
+    let i = c.loop-i.i in
+    let few = c.requires.few_environment in
+    let next : Cursor = record { bytes = bytes; place = skip bytes (used_before p q (i + 1)) start } in
+    let step : (c.if-is_used.word ≡ next_cell bytes p q start i) × (c.if-is_used.reader ≡ next) =
+    elim c.if-is_used.branch [
+      | then-is_used w ↦
+          let used : is_used p q i ≡ true = sym c.is_used.ensures ∙ w.if-is_used.true in (
+            rw (w.word-is, w.number_or_zero.ensures.value, c.loop-i.invariant.reads) (used_value bytes start p q i used),
+            rw (w.reader-is, w.number_or_zero.ensures.place, c.loop-i.invariant.reads, used_behind bytes start p q i few used) refl,
+          )
+      | else-is_used w ↦
+          let unused : is_used p q i ≡ false = sym c.is_used.ensures ∙ w.if-is_used.false in (
+            rw w.word-is (unused_value bytes start p q i unused),
+            rw (w.reader-is, c.loop-i.invariant.reads, unused_behind bytes start p q i few unused) refl,
+          )
+    ] in
     record {
-      words = λ k h. c.loop-i.invariant.1 k (omega arith);
-      end = c.loop-i.invariant.0 ∙ ap (λ i. skip bytes (used_before p q i) c.args.start) all ∙ ap (λ k. skip bytes k c.args.start) (used_all p q c.requires.1.0);
+      reads = step.1;
+      written = let word = step.0 in grind (arith, common_steps, c.loop-i.invariant.written);
     }

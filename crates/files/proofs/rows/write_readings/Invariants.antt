@@ -5,6 +5,7 @@ use Rattle.files.specs.Words.{biased}
 use Rattle.files.proofs.rows.write_readings.Given as goal
 
 abbrev pub invariant-loop-word : goal.invariant-loop-word
-invariant-loop-word l =
-    (l.place ≡ skip l.bytes l.word-index l.start)
-    × ((k : ℕ) → k < l.word-index → get_or l.words k 0 ≡ biased (unfiled (nth l.bytes k l.start)))
+invariant-loop-word l = record {
+  reads : l.reader ≡ record l.initial.reader { place = skip l.initial.reader.bytes l.word-index l.initial.reader.place };
+  written : (k : ℕ) → k < l.word-index → get_or l.words k 0 ≡ biased (unfiled (nth l.initial.reader.bytes k l.initial.reader.place));
+}

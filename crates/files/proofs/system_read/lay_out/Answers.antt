@@ -1,4 +1,4 @@
-use Rattle.std.proofs.Common.{◌≡◌, ℕ, ◌+◌, ◌-◌, ◌<◌, List, length, get_or, drop, sym, ap, ◌∙◌, subst, arith, rules}
+use Rattle.std.proofs.Common.{◌≡◌, ℕ, ◌+◌, ◌-◌, ◌<◌, List, length, get_or, drop, sym, ap, ◌∙◌, subst, arith}
 use borrow.Rule.Slice.PartMut.{put_mid}
 use Rattle.systems.specs.Layout.{row_words, row_place, words_taken, stored}
 use Rattle.files.specs.Flattening.{ReadsAsFiled}
@@ -10,36 +10,19 @@ use Rattle.files.proofs.Parts.{put_is, drop-put, part_long}
 use Rattle.files.proofs.Tested.{granted}
 use Rattle.files.proofs.system_read.lay_out.Goals as goal
 
-pub overflow_add-at : goal.overflow_add-at
-overflow_add-at c =
-    let file = granted c.args.bytes.now c.args.place (length c.args.memory.now) c.args.at c.args.file c.requires.0 c.requires.1 in
-    let h = file.inside in
-    search rules
-
-pub offset_bounds-memory-at : goal.offset_bounds-memory-at
-offset_bounds-memory-at c =
-    let file = granted c.args.bytes.now c.args.place (length c.args.memory.now) c.args.at c.args.file c.requires.0 c.requires.1 in
-    let h = file.inside in
-    search rules
-
-pub slice_bounds-write_words-end : goal.slice_bounds-write_words-end
-slice_bounds-write_words-end c =
-    let file = granted c.args.bytes.now c.args.place (length c.args.memory.now) c.args.at c.args.file c.requires.0 c.requires.1 in
-    let h = file.inside in
-    search rules
-
 pub write_words-requires : goal.write_words-requires
 write_words-requires c =
-    let file = granted c.args.bytes.now c.args.place (length c.args.memory.now) c.args.at c.args.file c.requires.0 c.requires.1 in
+    let file = granted c.args.bytes.now c.args.place (length c.args.memory.now) c.args.at c.args.file c.requires.no_fault c.requires.parts in
     let bytes = c.args.bytes.now in
-    let few : TestedFile → Type 0 = λ f. (w : ℕ) → w < f.sizes.states → FewMoves bytes f.sizes.channels (row_start bytes f.sizes.channels f.start w) in (
-      part_long c.args.memory.now c.args.at c.args.file.words file.inside ∙ file.words_are,
-      subst few (sym file.is) (λ w l. let row = file.tested.rows w l in (row.controller.high, row.environment.high)),
-    )
+    let few : TestedFile → Type 0 = λ f. (w : ℕ) → w < f.sizes.states → FewMoves bytes f.sizes.channels (row_start bytes f.sizes.channels f.start w) in
+    record {
+      long = part_long c.args.memory.now c.args.at c.args.file.words file.inside ∙ file.words_are;
+      few_moves = rw c.new.ensures (subst few (sym file.is) (λ w l. let row = file.tested.rows w l in (row.controller.high, row.environment.high)));
+    }
 
 pub returns : goal.returns
 returns c =
-    let file = granted c.args.bytes.now c.args.place (length c.args.memory.now) c.args.at c.args.file c.requires.0 c.requires.1 in
+    let file = granted c.args.bytes.now c.args.place (length c.args.memory.now) c.args.at c.args.file c.requires.no_fault c.requires.parts in
     let bytes = c.args.bytes.now in
     let place = c.args.place in
     let memory = c.args.memory.now in
@@ -51,7 +34,7 @@ returns c =
     × ((w j : ℕ) → w < f.sizes.states → j < row_words f.sizes.channels
     → get_or words (row_place f.sizes.channels w + j) 0 ≡ row_cell bytes f.sizes.channels (row_start bytes f.sizes.channels f.start w) j) in
     let long : length words ≡ c.args.file.words = c.write_words.auto.words ∙ part_long memory at c.args.file.words file.inside in
-    let done = subst Written file.is (long ∙ file.words_are, c.write_words.ensures.states, c.write_words.ensures.channels, c.write_words.ensures.rows) in
+    let done = subst Written file.is (long ∙ file.words_are, c.write_words.ensures.states, c.write_words.ensures.channels, rw c.new.ensures at c.write_words.ensures.rows) in
     let laid : words ≡ system_words m = words_are bytes place words done.0 done.1 done.2 done.3 in
     let after : List ℕ = put_mid at (at + c.args.file.words - at) memory words in
     let exit = put_is memory words (system_words m) at c.args.file.words laid (sym long ∙ ap length laid) in
