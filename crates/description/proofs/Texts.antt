@@ -1,16 +1,10 @@
 -- Texts that grow piece by piece.
-use Rattle.std.proofs.Common.{◌≡◌, ℕ, ◌+◌, List, ◌++◌, ap, ◌∙◌, append_assoc, add-one}
-use Rattle.description.specs.Text.{count_line}
+use Rattle.std.proofs.Common.{ℕ, ◌+◌, List, add-one}
+use Rattle.std.proofs.Output.{has_written_append}
+use Rattle.std.specs.Fmt.{HasWritten}
+use Rattle.std.specs.declared.fmt.Formatter.{Formatter}
 use Rattle.systems.specs.Bounded.{joined_below}
 
--- a piece, and then another
-pub piece_then : {middle end : List ℕ} (start a b : List ℕ) → middle ≡ start ++ a → end ≡ middle ++ b → end ≡ start ++ (a ++ b)
-piece_then start a b first second = second ∙ ap (λ (l : List ℕ). l ++ b) first ∙ append_assoc start a b
-
--- a line that shows an answer shows what the answer is known to be
-pub counted : {end : List ℕ} (start name : List ℕ) {answer known : ℕ} → answer ≡ known → end ≡ start ++ count_line name answer → end ≡ start ++ count_line name known
-counted start name same line = line ∙ ap (λ (n : ℕ). start ++ count_line name n) same
-
 -- a loop's turn: the text of the next number stands behind those of the numbers below it
-pub joined_more : {middle end : List ℕ} (start : List ℕ) (k : ℕ) (text : ℕ → List ℕ) → middle ≡ start ++ joined_below k text → end ≡ middle ++ text k → end ≡ start ++ joined_below (k + 1) text
-joined_more start k text below here = rw add-one (piece_then start (joined_below k text) (text k) below here)
+pub written_more : {W : Type 0} (took : W → List ℕ → W → Type 0) (f g h : Formatter W) (k : ℕ) (text : ℕ → List ℕ) → HasWritten took f (joined_below k text) g → HasWritten took g (text k) h → HasWritten took f (joined_below (k + 1) text) h
+written_more took f g h k text below here = rw add-one (has_written_append took f (joined_below k text) g (text k) h below here)

@@ -1,19 +1,17 @@
 //! What a system file describes.
 ghost use Rattle.std.specs.Prelude.{◌≡◌, length, vec_len, IfOk, Some, string_bytes};
-ghost use Rattle.description.specs.File.{file_text, Describes};
+ghost use Rattle.description.specs.File.{file_text, most_words, Describes};
 ghost use Rattle.description.specs.declared.file.DescribeError.TheVariants.{Refused, NoMemory};
 ghost use Rattle.description.specs.Failure.{error_text};
 
-use crate::text::system_text;
+use crate::text::Whole;
 use files::{ReadFault, read_system};
 use std::alloc::{AllocError, Global};
 use std::fmt;
-use systems::{Stored, System};
-
-/// How many words the largest stored system takes: 256 states of 8 channels.
-const MOST_WORDS: usize = 68_098;
+use systems::{MAX_CHANNELS, MAX_STATES, Stored, System, row_place};
 
 /// Why no description could be made.
+// Beside `DecideError` of `docket`, and no generic error for both: the two crates have none below them that it could stand in.
 #[derive(Clone, Copy, Drop)]
 pub enum DescribeError {
     /// The file is refused.
@@ -58,9 +56,7 @@ fn file_text<S: System>(
 ) -> Result<String, AllocError>
     ensures { IfOk result (λ text. string_bytes text ≡ file_text end given (S.System.meaning system.now)) }
 {
-    let mut text = format!(in heap; "read {end} of {given} bytes\n")?;
-    text.push_str(system_text(heap, system)?.as_str())?;
-    Ok(text)
+    format!(in heap; "read {end} of {given} bytes\n{}", Whole(system))
 }
 
 /// What the system file at the front of the bytes describes, with the memory to lay its system out in.
@@ -68,11 +64,18 @@ fn describe_in(heap: Global, bytes: &[u8], memory: &mut [u16]) -> Result<String,
     ensures { Describes bytes.now (length memory.old) result }
 {
     let read = read_system(bytes, 0, memory, 0)?;
-    let text = file_text(heap, read.end, bytes.len(), &Stored::new(memory))?;
-    Ok(text)
+    Ok(file_text(heap, read.end, bytes.len(), &Stored::new(memory))?)
+}
+
+/// How many words the largest stored system takes: as many as lie before a row past its last.
+fn most_words() -> usize
+    ensures { result ≡ most_words }
+{
+    row_place(MAX_CHANNELS, MAX_STATES)
 }
 
 /// Memory for so many words. What they hold at first does not matter.
+// By itself, so that no proof about `describe` has that many zeros in reach.
 fn memory_for(heap: Global, count: usize) -> Result<Vec<u16>, AllocError>
     ensures { IfOk result (λ words. vec_len words ≡ count) }
 {
@@ -81,8 +84,8 @@ fn memory_for(heap: Global, count: usize) -> Result<Vec<u16>, AllocError>
 
 /// What the system file at the front of the bytes describes.
 pub fn describe(heap: Global, bytes: &[u8]) -> Result<String, DescribeError>
-    ensures { Describes bytes.now 68098 result }
+    ensures { Describes bytes.now most_words result }
 {
-    let mut memory = memory_for(heap, MOST_WORDS)?;
+    let mut memory = memory_for(heap, most_words())?;
     describe_in(heap, bytes, &mut memory)
 }

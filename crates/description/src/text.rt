@@ -1,98 +1,97 @@
 //! What a system looks like as text, for a person.
-ghost use Rattle.std.specs.Prelude.{◌≡◌, ◌++◌, IfOk, string_bytes, OnOk};
-ghost use Rattle.description.specs.Text.{system_text, state_text, reading_text, readings_line, move_line, moves_text};
+ghost use Rattle.std.specs.Prelude.{◌≡◌, IfOk, Some, string_bytes};
+ghost use Rattle.description.specs.Text.{system_text, state_text, readings_line, moves_text};
 
 use std::alloc::{AllocError, Global};
+use std::fmt;
 use systems::System;
 
 /// The whole system as text: its sizes, and state by state the readings, the moves and where each pair of moves leads.
 pub fn system_text<S: System>(heap: Global, system: &S) -> Result<String, AllocError>
     ensures { IfOk result (λ text. string_bytes text ≡ system_text (S.System.meaning system.now)) }
 {
-    let mut text = String::new(heap);
-    write_system(&mut text, system)?;
-    Ok(text)
+    Whole(system).to_string(heap)
 }
 
-/// Adds the whole system to the text.
-fn write_system<S: System>(text: &mut String, system: &S) -> Result<(), AllocError>
-    ensures { OnOk result (string_bytes text.new ≡ string_bytes text.old ++ system_text (S.System.meaning system.now)) }
-{
-    let states = system.states();
-    let channels = system.channels();
-    writeln!(text, "states {states}")?;
-    writeln!(text, "channels {channels}")?;
-    for state in 0..states {
-        write_state(text, system, state)?;
-    }
-    Ok(())
-}
+/// A whole system: its sizes, and state by state the readings, the moves and where each pair of moves leads.
+#[derive_where(Clone, Copy)]
+pub(crate) struct Whole<'a, S>(pub(crate) &'a S);
 
-/// Adds what is known of one state to the text.
-fn write_state<S: System>(text: &mut String, system: &S, state: u16) -> Result<(), AllocError>
-    ensures { OnOk result (string_bytes text.new ≡ string_bytes text.old ++ state_text (S.System.meaning system.now) state) }
-{
-    let controller_moves = system.controller_moves(state);
-    let environment_moves = system.environment_moves(state);
-    writeln!(text, "state {state}")?;
-    write_readings(text, system, state)?;
-    writeln!(text, "  controller moves {controller_moves}")?;
-    writeln!(text, "  environment moves {environment_moves}")?;
-    write_moves(text, system, state)
-}
+impl<S: System> fmt::Display for Whole<'_, S> {
+    ghost output = { λ x. Some (system_text (S.System.meaning x.0.now)) };
 
-/// Adds what a channel shows at the state to the text.
-fn write_reading<S: System>(
-    text: &mut String,
-    system: &S,
-    state: u16,
-    channel: u8,
-) -> Result<(), AllocError>
-    ensures { OnOk result (string_bytes text.new ≡ string_bytes text.old ++ reading_text (S.System.meaning system.now) state channel) }
-{
-    let reading = system.reading(state, channel);
-    write!(text, " {reading}")
-}
-
-/// Adds the line of the state's readings to the text.
-fn write_readings<S: System>(text: &mut String, system: &S, state: u16) -> Result<(), AllocError>
-    ensures { OnOk result (string_bytes text.new ≡ string_bytes text.old ++ readings_line (S.System.meaning system.now) state) }
-{
-    let channels = system.channels();
-    write!(text, "  readings")?;
-    for channel in 0..channels {
-        write_reading(text, system, state, channel)?;
-    }
-    writeln!(text)
-}
-
-/// Adds the line of a pair of moves to the text.
-fn write_move<S: System>(
-    text: &mut String,
-    system: &S,
-    state: u16,
-    controller: u16,
-    environment: u16,
-) -> Result<(), AllocError>
-    ensures { OnOk result (string_bytes text.new ≡ string_bytes text.old ++ move_line (S.System.meaning system.now) state controller environment) }
-{
-    let next = system.next(state, controller, environment);
-    writeln!(
-        text,
-        "  move {controller} against {environment} leads to {next}"
-    )
-}
-
-/// Adds a line for each pair of moves at the state to the text.
-fn write_moves<S: System>(text: &mut String, system: &S, state: u16) -> Result<(), AllocError>
-    ensures { OnOk result (string_bytes text.new ≡ string_bytes text.old ++ moves_text (S.System.meaning system.now) state) }
-{
-    let controller_moves = system.controller_moves(state);
-    let environment_moves = system.environment_moves(state);
-    for controller in 0..controller_moves {
-        for environment in 0..environment_moves {
-            write_move(text, system, state, controller, environment)?;
+    #[tactic(auto, using(crate::proofs::Texts::written_more))]
+    fn fmt<W: fmt::Write>(&self, f: &mut fmt::Formatter<W>) -> fmt::Result {
+        let system = self.0;
+        writeln!(f, "states {}", system.states())?;
+        writeln!(f, "channels {}", system.channels())?;
+        for number in 0..system.states() {
+            write!(f, "{}", State { system, number })?;
         }
+        Ok(())
     }
-    Ok(())
+}
+
+/// What is known of a state, line by line.
+#[derive_where(Clone, Copy)]
+struct State<'a, S> {
+    system: &'a S,
+    number: u16,
+}
+
+impl<S: System> fmt::Display for State<'_, S> {
+    ghost output = { λ x. Some (state_text (S.System.meaning x.system.now) x.number) };
+
+    fn fmt<W: fmt::Write>(&self, f: &mut fmt::Formatter<W>) -> fmt::Result {
+        let State { system, number } = *self;
+        writeln!(f, "state {number}")?;
+        write!(f, "{}", Readings(*self))?;
+        writeln!(f, "  controller moves {}", system.controller_moves(number))?;
+        writeln!(
+            f,
+            "  environment moves {}",
+            system.environment_moves(number)
+        )?;
+        write!(f, "{}", Moves(*self))
+    }
+}
+
+/// The line of a state's readings.
+#[derive_where(Clone, Copy)]
+struct Readings<'a, S>(State<'a, S>);
+
+impl<S: System> fmt::Display for Readings<'_, S> {
+    ghost output = { λ x. Some (readings_line (S.System.meaning x.0.system.now) x.0.number) };
+
+    fn fmt<W: fmt::Write>(&self, f: &mut fmt::Formatter<W>) -> fmt::Result {
+        let State { system, number } = self.0;
+        write!(f, "  readings")?;
+        for channel in 0..system.channels() {
+            write!(f, " {}", system.reading(number, channel))?;
+        }
+        writeln!(f)
+    }
+}
+
+/// A line for each pair of moves at a state.
+#[derive_where(Clone, Copy)]
+struct Moves<'a, S>(State<'a, S>);
+
+impl<S: System> fmt::Display for Moves<'_, S> {
+    ghost output = { λ x. Some (moves_text (S.System.meaning x.0.system.now) x.0.number) };
+
+    #[tactic(auto, using(crate::proofs::Texts::written_more))]
+    fn fmt<W: fmt::Write>(&self, f: &mut fmt::Formatter<W>) -> fmt::Result {
+        let State { system, number } = self.0;
+        for controller in 0..system.controller_moves(number) {
+            for environment in 0..system.environment_moves(number) {
+                let next = system.next(number, controller, environment);
+                writeln!(
+                    f,
+                    "  move {controller} against {environment} leads to {next}"
+                )?;
+            }
+        }
+        Ok(())
+    }
 }

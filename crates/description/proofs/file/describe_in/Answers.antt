@@ -16,11 +16,6 @@ returns-in_err-read c =
     rw (p.1, p.2)
     (ap (file_fault bytes 0) all ∙ unless_err (file_fault bytes 0 (long - 0)) (file_read bytes 0) c.in_err-read.field-0.0 c.in_err-read.ensures.answer)
 
-pub returns-in_err-text : goal.returns-in_err-text
-returns-in_err-text c =
-    let p = err_from_is_err_and c.from_residual-in_err-text.result c.from_residual-in_err-text.ensures.1 in
-    rw (p.1, p.2) tt
-
 pub returns : goal.returns
 returns c =
     let bytes = c.args.bytes.now in
@@ -31,7 +26,7 @@ returns c =
     let granted = unless_ok (file_fault bytes 0 (long - 0)) (file_read bytes 0) c.in_ok-read.read done.answer in
     let system = ap stored (c.new.ensures ∙ stored_words_kept words done.filed.0) ∙ done.system in (
       ap (file_fault bytes 0) all ∙ granted.0,
-      c.in_ok-text.ensures
+      c.in_ok-file_text.ensures
           ∙ ap (λ read. file_text read.end (length bytes) (stored c.new.result.words.now)) granted.1
           ∙ ap (file_text (file_read bytes 0).end (length bytes)) system,
     )
