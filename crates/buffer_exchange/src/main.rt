@@ -1,7 +1,7 @@
 //! Decides the exchange of a buffer of capacity 1 for one of capacity 2, and the other way round.
 #![tactic(auto)]
 
-use anyhow::anyhow;
+use anyhow::bail;
 use arena::Exchange;
 use docket::Docket;
 use likeness::Exact;
@@ -25,16 +25,17 @@ fn report(rt: &HostRuntime, old: u8, new: u8) -> anyhow::Result<()> {
         Ok(decision) => {
             println!(rt; "swept {}", decision.swept)?;
             println!(rt; "standing {}", decision.standing)?;
-            if decision.replaces {
-                println!(rt; "replaces")?;
+            let verdict = if decision.replaces {
+                "replaces"
             } else {
-                println!(rt; "differs")?;
-            }
+                "differs"
+            };
+            println!(rt; "{verdict}")?;
             Ok(())
         }
         Err(error) => {
             println!(rt; "{error:?}")?;
-            Err(anyhow!("nothing is decided"))
+            bail!("nothing is decided");
         }
     }
 }

@@ -1,7 +1,7 @@
 //! Prints what the system file on standard input describes.
 #![tactic(auto)]
 
-use anyhow::anyhow;
+use anyhow::bail;
 use description::describe;
 use std::io::Read;
 
@@ -15,7 +15,7 @@ fn main(rt: HostRuntime) -> anyhow::Result<()> {
         }
         Err(error) => {
             println!(rt; "{error}")?;
-            Err(anyhow!("the file is refused"))
+            bail!("the file is refused");
         }
     }
 }

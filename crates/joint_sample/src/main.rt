@@ -1,7 +1,7 @@
 //! Writes the joint of two buffers as a system file, and prints what that file describes.
 #![tactic(auto)]
 
-use anyhow::anyhow;
+use anyhow::bail;
 use description::describe;
 use files::write_system;
 use systems::{Buffer, Joint};
@@ -13,10 +13,11 @@ fn main(rt: HostRuntime) -> anyhow::Result<()> {
     let joint = Joint::new(Buffer::new(1), Buffer::new(1));
     let mut bytes = [0; ROOM];
     if let Err(fault) = write_system(&joint, &mut bytes) {
-        let number = fault as u8;
-        println!(rt; "fault {number}")?;
-        return Err(anyhow!("the joint is not written"));
+        // a refusal is known by its number
+        println!(rt; "fault {}", fault as u8)?;
+        bail!("the joint is not written");
     }
+    // as in the program `describe`: a crate of their own for these lines would be longer than they are
     match describe(rt.alloc(), &bytes) {
         Ok(text) => {
             print!(rt; "{text}")?;
@@ -24,7 +25,7 @@ fn main(rt: HostRuntime) -> anyhow::Result<()> {
         }
         Err(error) => {
             println!(rt; "{error}")?;
-            Err(anyhow!("the file is refused"))
+            bail!("the file is refused");
         }
     }
 }

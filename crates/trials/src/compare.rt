@@ -1,18 +1,16 @@
 //! One trial: the docket's calls beside the second solution.
-use crate::draw::Generator;
-use crate::solve::{contains, solve};
-use arena::{Cause, Exchange};
+use crate::draw::{Generator, Shape};
+use crate::solve::solve;
+use arena::{Cause, Exchange, STANDING, number_of_pairs, place_of};
 use docket::{Docket, Settlement, Strike, check_certificate};
 use likeness::Likeness;
 use ranking::rank;
-use std::alloc::Global;
+use std::alloc::{AllocError, Global};
+use std::collections::BTreeSet;
 use systems::System;
 
-/// Room for the pairs of a trial.
-const PAIRS: usize = 256;
-
 /// What was compared so far.
-#[derive(Clone, Copy)]
+#[derive(Clone, Copy, Default)]
 pub struct Tally {
     pub compared: u32,
     pub agreed: u32,
@@ -21,16 +19,6 @@ pub struct Tally {
 }
 
 impl Tally {
-    /// Nothing compared yet.
-    pub fn new() -> Tally {
-        Tally {
-            compared: 0,
-            agreed: 0,
-            replaced: 0,
-            damaged: 0,
-        }
-    }
-
     /// Counts one comparison.
     fn count(&mut self, agrees: bool) {
         self.compared = self.compared.saturating_add(1);
@@ -40,156 +28,189 @@ impl Tally {
     }
 }
 
-/// Whether just the pairs of the set stand in the table.
-fn stand_alike(table: &[u32], set: &[bool], rows: u16, columns: u16) -> bool {
-    for place in 0..usize::from(rows) * usize::from(columns) {
-        if place >= table.len() || place >= set.len() || (table[place] == 0) != set[place] {
-            return false;
+/// An exchange, the pairs of its largest simulation, and the table that the docket's calls work on.
+#[derive(Drop)]
+struct Case<'a, S, T, L> {
+    exchange: Exchange<'a, S, T, L>,
+    simulation: BTreeSet<(u16, u16)>,
+    table: Vec<u32>,
+}
+
+impl<'a, S: System, T: System, L: Likeness> Case<'a, S, T, L> {
+    /// The exchange, solved the second way, with a table of zeros.
+    fn new(heap: Global, exchange: Exchange<'a, S, T, L>) -> Result<Case<'a, S, T, L>, AllocError> {
+        let Exchange { old, new, likeness } = exchange;
+        let simulation = solve(heap, old, new, likeness)?;
+        let pairs = number_of_pairs(&exchange);
+        Ok(Case {
+            exchange,
+            simulation,
+            table: vec![in heap; 0u32; pairs]?,
+        })
+    }
+
+    /// How many old states there are.
+    fn rows(&self) -> u16 {
+        self.exchange.old.states()
+    }
+
+    /// How many new states there are.
+    fn columns(&self) -> u16 {
+        self.exchange.new.states()
+    }
+
+    /// Whether the pair of start states is in the simulation.
+    fn replaces(&self) -> bool {
+        self.simulation.contains(&(0, 0))
+    }
+
+    /// Whether the simulation has so many pairs.
+    fn has_size(&self, standing: u32) -> bool {
+        // a cast, since there is no `From<u32>` for `usize`
+        self.simulation.len() == standing as usize
+    }
+
+    /// Whether the pair stands in the table.
+    fn stands(&self, pair: (u16, u16)) -> bool {
+        self.table.get(place_of(self.columns(), pair)) == Some(&STANDING)
+    }
+
+    /// Whether just the pairs of the simulation stand in the table.
+    fn stand_alike(&self) -> bool {
+        (0..self.rows()).all(|old_state| {
+            (0..self.columns()).all(|new_state| {
+                let pair = (old_state, new_state);
+                self.stands(pair) == self.simulation.contains(&pair)
+            })
+        })
+    }
+
+    /// Whether the certificate check accepts the table, and tells what the simulation does.
+    fn is_certified(&self) -> bool {
+        check_certificate(&self.exchange, &self.table).is_ok_and(|certificate| {
+            self.has_size(certificate.standing) && certificate.replaces == self.replaces()
+        })
+    }
+
+    /// Whether the docket decides as the simulation does, with the strikes proposed.
+    fn is_decided(&mut self, heap: Global, docket: &mut Docket, strikes: &[Strike]) -> bool {
+        docket
+            .decide(heap, &self.exchange, &mut self.table, strikes)
+            .is_ok_and(|decision| {
+                self.has_size(decision.standing) && decision.replaces == self.replaces()
+            })
+    }
+
+    /// Whether the settle check says that the pairs of the simulation stand.
+    fn is_settled(&self, docket: &Docket) -> bool {
+        matches!(
+            docket.settle(&self.exchange, &self.table),
+            Ok(Settlement::Settled(standing)) if self.has_size(standing)
+        )
+    }
+
+    /// Draws a strike, good or bad.
+    fn draw_strike(&self, generator: &mut Generator) -> Strike {
+        let pair = (
+            generator.below(self.rows().saturating_add(1)),
+            generator.below(self.columns().saturating_add(1)),
+        );
+        let cause = match generator.below(4) {
+            0 => Cause::Sight,
+            number => Cause::Move(number - 1),
+        };
+        Strike { pair, cause }
+    }
+
+    /// Changes one entry of the table.
+    fn damage(&mut self, generator: &mut Generator) {
+        let pair = (
+            generator.below(self.rows()),
+            generator.below(self.columns()),
+        );
+        let place = place_of(self.columns(), pair);
+        let drawn = u32::from(generator.below(6));
+        if let Some(entry) = self.table.get_mut(place) {
+            *entry = drawn;
         }
     }
-    true
 }
 
-/// How many of the first places are in the set.
-fn size_of(set: &[bool], rows: u16, columns: u16) -> u32 {
-    let mut size: u32 = 0;
-    for place in 0..usize::from(rows) * usize::from(columns) {
-        if place < set.len() && set[place] {
-            size = size.saturating_add(1);
+/// A row of trials: the generator that they draw from, and what they compared so far.
+#[derive(Drop)]
+pub struct Trials {
+    heap: Global,
+    generator: Generator,
+    pub tally: Tally,
+}
+
+impl Trials {
+    /// No trial yet, and a generator that starts from the seed.
+    pub fn new(heap: Global, seed: u32) -> Trials {
+        Trials {
+            heap,
+            generator: Generator::new(seed),
+            tally: Tally::default(),
         }
     }
-    size
-}
 
-/// Draws a strike, good or bad.
-fn draw_strike(generator: &mut Generator, rows: u16, columns: u16) -> Strike {
-    let pair = (
-        generator.below(rows.saturating_add(1)),
-        generator.below(columns.saturating_add(1)),
-    );
-    let cause = match generator.below(4) {
-        0 => Cause::Sight,
-        number => Cause::Move(number - 1),
-    };
-    Strike { pair, cause }
-}
-
-/// Whether the certificate check accepts the table, and tells what the set does.
-fn accepts<S: System, T: System, L: Likeness>(
-    exchange: &Exchange<S, T, L>,
-    table: &[u32],
-    standing: u32,
-    replaces: bool,
-) -> bool {
-    match check_certificate(exchange, table) {
-        Ok(certificate) => { certificate.standing == standing && certificate.replaces == replaces }
-        Err(_) => false,
+    /// The words of a stored system of the shape.
+    pub fn draw(&mut self, shape: Shape) -> Result<Vec<u16>, AllocError> {
+        self.generator.draw_system(self.heap, shape)
     }
-}
 
-/// Changes one entry of the table.
-fn damage(generator: &mut Generator, table: &mut [u32], rows: u16, columns: u16) {
-    let place = usize::from(generator.below(rows)) * usize::from(columns)
-        + usize::from(generator.below(columns));
-    let entry = u32::from(generator.below(6));
-    if place < table.len() {
-        table[place] = entry;
+    /// The words of a near copy of a stored system of the shape: at most one next state is another.
+    pub fn near_copy(&mut self, words: &[u16], shape: Shape) -> Result<Vec<u16>, AllocError> {
+        self.generator.draw_near_copy(self.heap, words, shape)
     }
-}
 
-/// Whether the settle check says that so many pairs stand.
-fn is_settled<S: System, T: System, L: Likeness>(
-    docket: &Docket,
-    exchange: &Exchange<S, T, L>,
-    table: &[u32],
-    standing: u32,
-) -> bool {
-    match docket.settle(exchange, table) {
-        Ok(Settlement::Settled(number)) => number == standing,
-        _ => false,
+    /// Decides with strikes drawn, and compares the verdict, the table, the settle check and the certificate check.
+    fn compare_decision<S: System, T: System, L: Likeness>(&mut self, case: &mut Case<S, T, L>) {
+        let strikes = [
+            case.draw_strike(&mut self.generator),
+            case.draw_strike(&mut self.generator),
+        ];
+        let mut docket = Docket::new();
+        self.tally
+            .count(case.is_decided(self.heap, &mut docket, &strikes));
+        self.tally.count(case.stand_alike());
+        self.tally.count(case.is_settled(&docket));
+        self.tally.count(case.is_certified());
+        if case.replaces() {
+            self.tally.replaced = self.tally.replaced.saturating_add(1);
+        }
     }
-}
 
-/// Decides with strikes drawn, and compares the verdict, the table, the settle check and the certificate check.
-fn compare_decision<S: System, T: System, L: Likeness>(
-    heap: Global,
-    generator: &mut Generator,
-    exchange: &Exchange<S, T, L>,
-    table: &mut [u32],
-    set: &[bool],
-    tally: &mut Tally,
-) {
-    let rows = exchange.old.states();
-    let columns = exchange.new.states();
-    let standing = size_of(set, rows, columns);
-    let replaces = contains(set, columns, (0, 0));
-    let strikes = [
-        draw_strike(generator, rows, columns),
-        draw_strike(generator, rows, columns),
-    ];
-    let mut docket = Docket::new();
-    let agrees = match docket.decide(heap, exchange, table, &strikes) {
-        Ok(decision) => decision.standing == standing && decision.replaces == replaces,
-        Err(_) => false,
-    };
-    tally.count(agrees);
-    tally.count(stand_alike(table, set, rows, columns));
-    tally.count(is_settled(&docket, exchange, table, standing));
-    tally.count(accepts(exchange, table, standing, replaces));
-    if replaces {
-        tally.replaced = tally.replaced.saturating_add(1);
+    /// Ranks the pairs, and compares the table and the certificate check.
+    fn compare_ranks<S: System, T: System, L: Likeness>(&mut self, case: &mut Case<S, T, L>) {
+        self.tally
+            .count(rank(&case.exchange, &mut case.table).is_ok());
+        self.tally.count(case.stand_alike());
+        self.tally.count(case.is_certified());
     }
-}
 
-/// Ranks the pairs, and compares the table and the certificate check.
-fn compare_ranks<S: System, T: System, L: Likeness>(
-    exchange: &Exchange<S, T, L>,
-    table: &mut [u32],
-    set: &[bool],
-    tally: &mut Tally,
-) {
-    let rows = exchange.old.states();
-    let columns = exchange.new.states();
-    let standing = size_of(set, rows, columns);
-    let replaces = contains(set, columns, (0, 0));
-    tally.count(rank(exchange, table).is_ok());
-    tally.count(stand_alike(table, set, rows, columns));
-    tally.count(accepts(exchange, table, standing, replaces));
-}
-
-/// Damages the table, and compares: it may be accepted only if just the pairs of the set stand.
-fn compare_damaged<S: System, T: System, L: Likeness>(
-    generator: &mut Generator,
-    exchange: &Exchange<S, T, L>,
-    table: &mut [u32],
-    set: &[bool],
-    tally: &mut Tally,
-) {
-    let rows = exchange.old.states();
-    let columns = exchange.new.states();
-    damage(generator, table, rows, columns);
-    let accepted = check_certificate(exchange, table).is_ok();
-    tally.count(!accepted || stand_alike(table, set, rows, columns));
-    if !accepted {
-        tally.damaged = tally.damaged.saturating_add(1);
+    /// Damages the table, and compares: it may be accepted only if just the pairs of the simulation stand.
+    fn compare_damaged<S: System, T: System, L: Likeness>(&mut self, case: &mut Case<S, T, L>) {
+        case.damage(&mut self.generator);
+        let accepted = check_certificate(&case.exchange, &case.table).is_ok();
+        self.tally.count(!accepted || case.stand_alike());
+        if !accepted {
+            self.tally.damaged = self.tally.damaged.saturating_add(1);
+        }
     }
-}
 
-/// Compares everything for one exchange.
-pub fn trial<'a, S: System, T: System, L: Likeness>(
-    heap: Global,
-    generator: &mut Generator,
-    old: &'a S,
-    new: &'a T,
-    likeness: &'a L,
-    tally: &mut Tally,
-) {
-    let mut set = [true; PAIRS];
-    solve(old, new, likeness, &mut set);
-    let exchange = Exchange { old, new, likeness };
-    let mut table = [0; PAIRS];
-    compare_decision(heap, generator, &exchange, &mut table, &set, tally);
-    compare_damaged(generator, &exchange, &mut table, &set, tally);
-    compare_ranks(&exchange, &mut table, &set, tally);
-    compare_damaged(generator, &exchange, &mut table, &set, tally);
+    /// Compares everything for one exchange.
+    pub fn compare<S: System, T: System, L: Likeness>(
+        &mut self,
+        old: &S,
+        new: &T,
+        likeness: &L,
+    ) -> anyhow::Result<()> {
+        let mut case = Case::new(self.heap, Exchange { old, new, likeness })?;
+        self.compare_decision(&mut case);
+        self.compare_damaged(&mut case);
+        self.compare_ranks(&mut case);
+        self.compare_damaged(&mut case);
+        Ok(())
+    }
 }

@@ -1,11 +1,20 @@
 //! Numbers and systems drawn by a fixed generator.
-use systems::{READING_BIAS, row_place};
+use std::alloc::{AllocError, Global};
+use systems::{MAX_MOVES, READING_BIAS, row_place};
 
-/// How many words the largest drawn system takes.
-pub const ROOM: usize = 2_200;
-
-/// The distance from one controller move to the next among the next states of a row.
-const MOVE_STRIDE: usize = 16;
+/// What a drawn system looks like.
+#[derive(Clone, Copy)]
+pub struct Shape {
+    pub states: u16,
+    pub channels: u16,
+    /// At most so many moves of the controller at a state.
+    pub controller: u16,
+    /// At most so many moves of the environment at a state.
+    pub environment: u16,
+    /// So many different readings, from the first on.
+    pub readings: u16,
+    pub first: u16,
+}
 
 /// A generator of numbers that look random: the same numbers in every run.
 #[derive(Drop)]
@@ -33,91 +42,72 @@ impl Generator {
         if bound == 0 {
             return 0;
         }
+        // a cast of what is below a number of 16 bits
         ((self.last >> 16) % u32::from(bound)) as u16
     }
-}
 
-/// What a drawn system looks like.
-#[derive(Clone, Copy)]
-pub struct Shape {
-    pub states: u16,
-    pub channels: u16,
-    /// At most so many moves of the controller at a state.
-    pub controller: u16,
-    /// At most so many moves of the environment at a state.
-    pub environment: u16,
-    /// So many different readings, from the first on.
-    pub readings: u16,
-    pub first: u16,
-}
-
-/// Writes a word, where there is such a place.
-fn put(words: &mut [u16], at: usize, word: u16) {
-    if at < words.len() {
-        words[at] = word;
-    }
-}
-
-/// Draws the next states of a row whose next states begin at the place.
-fn draw_next_states(
-    generator: &mut Generator,
-    words: &mut [u16],
-    at: usize,
-    states: u16,
-    controller: u16,
-    environment: u16,
-) {
-    for a in 0..controller {
-        for b in 0..environment {
-            let offset = usize::from(a) * MOVE_STRIDE + usize::from(b);
-            let next = generator.below(states);
-            put(words, at.saturating_add(offset), next);
+    /// Draws the next states of a row. The place of a pair of moves that the row has not holds 0.
+    fn draw_next_states(
+        &mut self,
+        words: &mut Vec<u16>,
+        states: u16,
+        controller: u16,
+        environment: u16,
+    ) -> Result<(), AllocError> {
+        for a in 0..MAX_MOVES {
+            for b in 0..MAX_MOVES {
+                let has_moves = a < controller && b < environment;
+                words.push(if has_moves { self.below(states) } else { 0 })?;
+            }
         }
+        Ok(())
     }
-}
 
-/// Draws the row of a state that begins at the place.
-fn draw_row(generator: &mut Generator, words: &mut [u16], at: usize, shape: Shape) {
-    for channel in 0..shape.channels {
-        let reading = generator.below(shape.readings);
-        put(
-            words,
-            at.saturating_add(usize::from(channel)),
-            (READING_BIAS as u16)
-                .wrapping_add(shape.first)
-                .wrapping_add(reading),
-        );
+    /// Draws the row of a state.
+    fn draw_row(&mut self, words: &mut Vec<u16>, shape: Shape) -> Result<(), AllocError> {
+        for _ in 0..shape.channels {
+            let reading = self.below(shape.readings);
+            words.push(
+                // a cast of what is 32,768
+                (READING_BIAS as u16)
+                    .wrapping_add(shape.first)
+                    .wrapping_add(reading),
+            )?;
+        }
+        let controller = self.below(shape.controller).saturating_add(1);
+        let environment = self.below(shape.environment).saturating_add(1);
+        words.push(controller)?;
+        words.push(environment)?;
+        self.draw_next_states(words, shape.states, controller, environment)
     }
-    let controller = generator.below(shape.controller).saturating_add(1);
-    let environment = generator.below(shape.environment).saturating_add(1);
-    let moves = at.saturating_add(usize::from(shape.channels));
-    put(words, moves, controller);
-    put(words, moves.saturating_add(1), environment);
-    draw_next_states(
-        generator,
-        words,
-        moves.saturating_add(2),
-        shape.states,
-        controller,
-        environment,
-    );
-}
 
-/// Draws a stored system of the shape into the words.
-pub fn draw_system(generator: &mut Generator, words: &mut [u16], shape: Shape) {
-    put(words, 0, shape.states);
-    put(words, 1, shape.channels);
-    for state in 0..shape.states {
-        draw_row(generator, words, row_place(shape.channels, state), shape);
+    /// The words of a stored system of the shape, drawn.
+    pub fn draw_system(&mut self, heap: Global, shape: Shape) -> Result<Vec<u16>, AllocError> {
+        let mut words = vec![in heap; shape.states, shape.channels]?;
+        for _ in 0..shape.states {
+            self.draw_row(&mut words, shape)?;
+        }
+        Ok(words)
     }
-}
 
-/// Draws one next state of the system anew, in half of the cases.
-pub fn bend(generator: &mut Generator, words: &mut [u16], shape: Shape) {
-    let state = generator.below(shape.states);
-    let next = generator.below(shape.states);
-    if generator.below(2) == 0 {
-        let row = row_place(shape.channels, state).saturating_add(usize::from(shape.channels));
-        put(words, row.saturating_add(2), next);
+    /// The words of a near copy of the system: one next state is drawn anew, in half of the cases.
+    pub fn draw_near_copy(
+        &mut self,
+        heap: Global,
+        words: &[u16],
+        shape: Shape,
+    ) -> Result<Vec<u16>, AllocError> {
+        let mut words = words.to_vec(heap)?;
+        let state = self.below(shape.states);
+        let next = self.below(shape.states);
+        if self.below(2) == 0 {
+            let moves = row_place(shape.channels, state).saturating_add(usize::from(
+                shape.channels,
+            ));
+            if let Some(word) = words.get_mut(moves.saturating_add(2)) {
+                *word = next;
+            }
+        }
+        Ok(words)
     }
 }

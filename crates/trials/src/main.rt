@@ -1,9 +1,9 @@
 //! Draws many exchanges, solves each a second way, and prints how often the docket's calls agreed.
 #![tactic(auto)]
 
-use crate::compare::{Tally, trial};
-use crate::draw::{Generator, ROOM, Shape, bend, draw_system};
-use anyhow::anyhow;
+use crate::compare::{Tally, Trials};
+use crate::draw::Shape;
+use anyhow::ensure;
 use likeness::{Exact, Likeness, SeaState, Within};
 use systems::{CodeList, Joint, Stored};
 
@@ -24,14 +24,27 @@ const SMALL: Shape = Shape {
     first: 0,
 };
 
-/// Prints a tally.
-fn tell(rt: &HostRuntime, name: &str, tally: Tally) -> anyhow::Result<()> {
-    let compared = tally.compared;
-    let agreed = tally.agreed;
-    let replaced = tally.replaced;
-    let refused = tally.damaged;
+/// Makes the trials of a sort from the seed, and prints their tally.
+fn run_trials<F: FnMut(&mut Trials) -> anyhow::Result<()>>(
+    rt: &HostRuntime,
+    name: &str,
+    seed: u32,
+    mut one_trial: F,
+) -> anyhow::Result<()>
+    requires { F.IsAlwaysCallable one_trial }
+{
+    let mut trials = Trials::new(rt.alloc(), seed);
+    for _ in 0..TRIALS {
+        one_trial(&mut trials)?;
+    }
+    let Tally {
+        compared,
+        agreed,
+        replaced,
+        damaged,
+    } = trials.tally;
     println!(rt;
-        "{name}: {compared} compared, {agreed} agreed; {replaced} replaced, {refused} damaged tables refused"
+        "{name}: {compared} compared, {agreed} agreed; {replaced} replaced, {damaged} damaged tables refused"
     )?;
     Ok(())
 }
@@ -44,104 +57,63 @@ fn stored_trials<L: Likeness + Copy>(
     new: Shape,
     likeness: L,
 ) -> anyhow::Result<()> {
-    let mut generator = Generator::new(1);
-    let mut tally = Tally::new();
-    for _ in 0..TRIALS {
-        let mut old_words = [0; ROOM];
-        let mut new_words = [0; ROOM];
-        draw_system(&mut generator, &mut old_words, old);
-        draw_system(&mut generator, &mut new_words, new);
-        let old_system = Stored::new(&old_words);
-        let new_system = Stored::new(&new_words);
-        trial(
-            rt.alloc(),
-            &mut generator,
-            &old_system,
-            &new_system,
+    run_trials(rt, name, 1, |trials| {
+        let old_words = trials.draw(old)?;
+        let new_words = trials.draw(new)?;
+        trials.compare(
+            &Stored::new(&old_words),
+            &Stored::new(&new_words),
             &likeness,
-            &mut tally,
-        );
-    }
-    tell(rt, name, tally)
+        )
+    })
 }
 
 /// Draws a system and a copy of it in which at most one next state is another.
 fn copies(rt: &HostRuntime, name: &str, shape: Shape) -> anyhow::Result<()> {
-    let mut generator = Generator::new(2);
-    let mut tally = Tally::new();
-    for _ in 0..TRIALS {
-        let mut old_words = [0; ROOM];
-        draw_system(&mut generator, &mut old_words, shape);
-        let mut new_words = old_words;
-        bend(&mut generator, &mut new_words, shape);
-        let old_system = Stored::new(&old_words);
-        let new_system = Stored::new(&new_words);
-        trial(
-            rt.alloc(),
-            &mut generator,
-            &old_system,
-            &new_system,
-            &Exact,
-            &mut tally,
-        );
-    }
-    tell(rt, name, tally)
+    run_trials(rt, name, 2, |trials| {
+        let old_words = trials.draw(shape)?;
+        let new_words = trials.near_copy(&old_words, shape)?;
+        trials.compare(&Stored::new(&old_words), &Stored::new(&new_words), &Exact)
+    })
 }
 
 /// Draws two parts, and exchanges their joint for one in which the second part is a near copy.
 fn joints(rt: &HostRuntime, name: &str, shape: Shape) -> anyhow::Result<()> {
-    let mut generator = Generator::new(3);
-    let mut tally = Tally::new();
-    for _ in 0..TRIALS {
-        let mut first_words = [0; ROOM];
-        let mut old_words = [0; ROOM];
-        draw_system(&mut generator, &mut first_words, shape);
-        draw_system(&mut generator, &mut old_words, shape);
-        let mut new_words = old_words;
-        bend(&mut generator, &mut new_words, shape);
-        let old_system = Joint::new(Stored::new(&first_words), Stored::new(&old_words));
-        let new_system = Joint::new(Stored::new(&first_words), Stored::new(&new_words));
-        trial(
-            rt.alloc(),
-            &mut generator,
-            &old_system,
-            &new_system,
+    run_trials(rt, name, 3, |trials| {
+        let first_words = trials.draw(shape)?;
+        let old_words = trials.draw(shape)?;
+        let new_words = trials.near_copy(&old_words, shape)?;
+        let first = Stored::new(&first_words);
+        trials.compare(
+            &Joint::new(first, Stored::new(&old_words)),
+            &Joint::new(first, Stored::new(&new_words)),
             &Exact,
-            &mut tally,
-        );
-    }
-    tell(rt, name, tally)
+        )
+    })
 }
 
 /// Exchanges a system for a code list over a near copy of it, which shows one reading as another.
 fn code_lists(rt: &HostRuntime, name: &str, shape: Shape) -> anyhow::Result<()> {
-    let mut generator = Generator::new(4);
-    let mut tally = Tally::new();
-    for _ in 0..TRIALS {
-        let mut old_words = [0; ROOM];
-        draw_system(&mut generator, &mut old_words, shape);
-        let mut new_words = old_words;
-        bend(&mut generator, &mut new_words, shape);
-        let old_system = Stored::new(&old_words);
-        let mut new_system = CodeList::new(Stored::new(&new_words), 0, 3);
-        if new_system.add(2, 1).is_err() {
-            return Err(anyhow!("the code list is full"));
-        }
-        trial(
-            rt.alloc(),
-            &mut generator,
-            &old_system,
-            &new_system,
-            &Exact,
-            &mut tally,
-        );
-    }
-    tell(rt, name, tally)
+    run_trials(rt, name, 4, |trials| {
+        let old_words = trials.draw(shape)?;
+        let new_words = trials.near_copy(&old_words, shape)?;
+        let mut coded = CodeList::new(Stored::new(&new_words), 0, 3);
+        ensure!(coded.add(2, 1).is_ok(), "the code list is full");
+        trials.compare(&Stored::new(&old_words), &coded, &Exact)
+    })
 }
 
 /// Drawn stored systems, compared exactly.
 fn exact_trials(rt: &HostRuntime) -> anyhow::Result<()> {
     let tiny = Shape { states: 1, ..SMALL };
+    let one_reading = Shape {
+        readings: 1,
+        ..SMALL
+    };
+    let two_channels = Shape {
+        channels: 2,
+        ..SMALL
+    };
     let many_moves = Shape {
         states: 3,
         controller: 16,
@@ -149,19 +121,7 @@ fn exact_trials(rt: &HostRuntime) -> anyhow::Result<()> {
         ..SMALL
     };
     stored_trials(rt, "small systems", SMALL, SMALL, Exact)?;
-    stored_trials(
-        rt,
-        "no unlike pair",
-        Shape {
-            readings: 1,
-            ..SMALL
-        },
-        Shape {
-            readings: 1,
-            ..SMALL
-        },
-        Exact,
-    )?;
+    stored_trials(rt, "no unlike pair", one_reading, one_reading, Exact)?;
     stored_trials(
         rt,
         "all pairs unlike",
@@ -171,28 +131,13 @@ fn exact_trials(rt: &HostRuntime) -> anyhow::Result<()> {
     )?;
     stored_trials(rt, "a single state against four", tiny, SMALL, Exact)?;
     stored_trials(rt, "16 by 16 moves", many_moves, many_moves, Exact)?;
-    stored_trials(
-        rt,
-        "two channels",
-        Shape {
-            channels: 2,
-            ..SMALL
-        },
-        Shape {
-            channels: 2,
-            ..SMALL
-        },
-        Exact,
-    )?;
-    Ok(())
+    stored_trials(rt, "two channels", two_channels, two_channels, Exact)
 }
 
 /// The other likenesses.
 fn other_likenesses(rt: &HostRuntime) -> anyhow::Result<()> {
     let mut within = Within::new();
-    if within.set(0, 1).is_err() {
-        return Err(anyhow!("the tolerance is refused"));
-    }
+    ensure!(within.set(0, 1).is_ok(), "the tolerance is refused");
     let many_readings = Shape {
         readings: 4,
         ..SMALL
@@ -202,8 +147,7 @@ fn other_likenesses(rt: &HostRuntime) -> anyhow::Result<()> {
         ..SMALL
     };
     stored_trials(rt, "within 1", many_readings, many_readings, within)?;
-    stored_trials(rt, "sea states", heights, heights, SeaState::on(0))?;
-    Ok(())
+    stored_trials(rt, "sea states", heights, heights, SeaState::on(0))
 }
 
 fn main(rt: HostRuntime) -> anyhow::Result<()> {
