@@ -5,7 +5,7 @@ ghost use Rattle.arena.specs.Arena.{Arena as View, Closed};
 /// An arena: an old system and a new one side by side, as far as the game of an exchange sees them.
 ///
 /// A pair is an old state and a new one.
-// Each question stands twice, and an arena hands out no two values of `System`: that would ask all laws of systems of it, and what is proved over arenas needs one.
+// Each question stands twice. Two values of `System` instead would ask all their laws of every arena, where one law is needed; a question told which system is meant would choose between two fields of the view in every contract.
 pub trait Arena {
     // the numbers and functions that the answers are
     ghost view: { Self → View };

@@ -38,7 +38,7 @@ impl<A: Arena> Board<'_, A> {
     {
         let arena = self.arena;
         let (old_state, new_state) = pair;
-        // by a rule of this project four labelled loops, left from inside where a reply is spoilt
+        // by a rule of this project four nested loops, three with labels, left from inside where a reply is spoilt
         'moves: for controller in moves {
             'replies: for reply in 0..arena.new_controller_moves(new_state) {
                 'answers: for answer in 0..arena.new_environment_moves(new_state) {

@@ -11,7 +11,7 @@ use std::fmt;
 use systems::{MAX_CHANNELS, MAX_STATES, Stored, System, row_place};
 
 /// Why no description could be made.
-// Beside `DecideError` of `docket`, and no generic error for both: the two crates have none below them that it could stand in.
+// Beside `DecideError` of `docket`, and no generic error for both: the one crate below both, `systems`, knows no want of memory.
 #[derive(Clone, Copy, Drop)]
 pub enum DescribeError {
     /// The file is refused.

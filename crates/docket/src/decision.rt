@@ -20,7 +20,7 @@ pub struct Decision {
 }
 
 /// Why nothing was decided.
-// Beside `DescribeError` of `description`, and no generic error for both: the two crates have none below them that it could stand in.
+// Beside `DescribeError` of `description`, and no generic error for both: the one crate below both, `systems`, knows no want of memory.
 #[derive(Clone, Copy, Debug, PartialEq, Eq, Drop)]
 pub enum DecideError {
     /// The opening is refused.

@@ -11,7 +11,7 @@ pub(crate) fn number_standing<A: Arena>(board: &Board<'_, A>) -> u32
     requires space { pairs (A.Arena.view board.now.arena.now) ≤ length board.now.table.now }
     ensures { result ≡ number_standing (A.Arena.view board.now.arena.now) board.now.table.now }
 {
-    // at most 65,536, which the count's type has room for
+    // a cast of what is at most 65,536: a `TryFrom` would bring an error that never comes
     board.table[..number_of_pairs(board.arena)]
         .iter()
         .filter(|entry| **entry == STANDING)

@@ -44,6 +44,7 @@ const MOVES_ALLOWED: Allowed = Allowed {
     otherwise: Reason::Moves,
 };
 
+// Reader and state are two parameters: a struct of both would be made anew for each row.
 /// Reads the next number, in the row of the state.
 #[tactic(auto, unfolding(crate::specs::Sequence::value_at))]
 fn number(reader: &mut Reader, state: u16) -> Result<u16, ReadFault>
@@ -58,7 +59,7 @@ fn number(reader: &mut Reader, state: u16) -> Result<u16, ReadFault>
     })
 }
 
-/// The same, where the number is allowed.
+/// Reads the next number, where it is allowed.
 fn allowed_number(reader: &mut Reader, state: u16, allowed: Allowed) -> Result<u16, ReadFault>
     ensures answer { Unless (refused reader.old.bytes reader.old.place state allowed) (value_at reader.old.bytes reader.old.place) result }
     ensures place { reader.new ≡ record reader.old { place = after reader.old.bytes reader.old.place } }

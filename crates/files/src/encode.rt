@@ -8,6 +8,8 @@ use crate::small::SmallSystem;
 use codec::file_reading;
 use systems::System;
 
+// State and writer are two parameters: a struct of both would be made anew for each row.
+// A state in range and a place with room are asked of each call: the one is a plain number, and the room that a place needs is another in each.
 impl<S: System> SmallSystem<'_, S> {
     /// Puts the readings at a state.
     fn put_readings(&self, state: u16, writer: &mut Writer)

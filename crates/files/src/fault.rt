@@ -7,7 +7,7 @@ use std::fmt;
 use systems::LayoutFault;
 
 /// Why a number of a system file is refused.
-// Cases of its own beside those of a layout, since they are told of a file's numbers.
+// No `Layout(LayoutFault)`: contracts and definitions name each case, and would name each through two enums.
 #[derive(Clone, Copy, Debug, PartialEq, Eq)]
 pub enum Reason {
     /// It cannot be read.
@@ -31,6 +31,7 @@ pub struct ReadFault {
     /// Where the number begins.
     pub place: usize,
     /// The state whose row it is in; 0 at the numbers of states and channels.
+    // 0 and no `Option`: so it was decided, and callers rely on it
     pub state: u16,
 }
 

@@ -22,7 +22,7 @@ fn has_few_moves<S: System>(system: &S, state: u16) -> bool
 }
 
 /// Whether each side has at most 16 moves at every state.
-// Beside `have_few_moves` of `docket`: what served both would be public, and would ask of its closure that it can be called.
+// Not one function with `have_few_moves` of `docket`: it would be public and ask of its closure that it can be called, and no public function here asks anything.
 fn has_few_moves_throughout<S: System>(system: &S) -> bool
     ensures { result ≡ all_below (S.System.meaning system.now).states (few_moves (S.System.meaning system.now)) }
 {

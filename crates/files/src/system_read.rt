@@ -23,7 +23,7 @@ pub struct SystemRead {
 /// Reads the system file that begins at the byte place into the words from `at` on.
 ///
 /// The whole file is tested before the first word is written, so a refused read changes no word.
-// Bytes and place by themselves, here and below: the clauses name them.
+// Bytes and place are two parameters, here and below: the clauses of this public call name each, and a struct would be taken apart in all of them.
 pub fn read_system(
     bytes: &[u8],
     place: usize,

@@ -7,7 +7,7 @@ use crate::small::SmallSystem;
 use systems::System;
 
 /// Why a system is not written, with the number of that refusal.
-// Cases of its own beside those of a layout, since they are told of a system, and of the bytes for its file.
+// No `Layout(LayoutFault)`: two of a layout's cases, `TooShort` and `NextState`, never come here.
 #[derive(Clone, Copy, Debug, PartialEq, Eq)]
 pub enum SystemWriteFault {
     /// It has more than 256 states.

@@ -28,6 +28,7 @@ impl<A: Arena> RankTable<'_, A> {
     }
 
     /// Writes the pair's entry.
+    // That the pair is in range is asked: pairs are plain tuples, by a rule of this project.
     pub(crate) fn write_entry(&mut self, pair: (u16, u16), entry: u32)
         requires row { pair.0 < (A.Arena.view self.old.arena.now).old_states }
         requires column { pair.1 < (A.Arena.view self.old.arena.now).new_states }

@@ -12,7 +12,7 @@ pub(crate) struct CodeEntry {
 
 /// The entries, of which the first `count` are in use, and the cut.
 // An array with its count, so that a list of codes can be copied and never wants memory.
-// Fields and no model: a struct that holds a reference beside a model cannot be moved yet, as the checker has no proof of that.
+// Fields and no model: a `CodeList` over a stored system would hold a reference beside a model, which cannot be proved yet.
 #[derive(Clone, Copy)]
 pub(crate) struct Codes {
     pub(crate) entries: [CodeEntry; MOST_CODES],

@@ -70,6 +70,7 @@ impl<A: System, B: System> System for Joint<A, B> {
         }
     }
 
+    // two bodies, as the two sides' moves are two questions: one told by closures which to ask would be longer
     fn controller_moves(&self, state: u16) -> u16 {
         if state >= self.states() {
             return 0;

@@ -59,6 +59,7 @@ impl Row<'_> {
     }
 
     /// The next state of a pair of moves.
+    // That moves are below 16 is asked of each call: they are plain numbers, as in `System`.
     pub(crate) fn next(&self, controller: u16, environment: u16) -> u16
         requires controller { controller < 16 }
         requires environment { environment < 16 }

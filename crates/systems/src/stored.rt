@@ -100,7 +100,7 @@ impl<'a> System for Stored<'a> {
     fn reading(&self, state: u16, channel: u8) -> i16 {
         match self.row(state) {
             Some(row) if channel < self.channels() => {
-                // a cast of what was 16 bits with a sign
+                // a cast of what is -32,768 to 32,767: a `TryFrom` would bring an error that never comes
                 (i32::from(row.reading(channel)) - READING_BIAS) as i16
             }
             _ => 0,

@@ -42,7 +42,7 @@ impl Generator {
         if bound == 0 {
             return 0;
         }
-        // a cast of what is below a number of 16 bits
+        // a cast of what is below a number of 16 bits: a `TryFrom` would bring an error that never comes
         ((self.last >> 16) % u32::from(bound)) as u16
     }
 
@@ -68,7 +68,7 @@ impl Generator {
         for _ in 0..shape.channels {
             let reading = self.below(shape.readings);
             words.push(
-                // a cast of what is 32,768
+                // a cast of what is 32,768: a `TryFrom` would bring an error that never comes
                 (READING_BIAS as u16)
                     .wrapping_add(shape.first)
                     .wrapping_add(reading),

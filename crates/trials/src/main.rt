@@ -25,6 +25,7 @@ const SMALL: Shape = Shape {
 };
 
 /// Makes the trials of a sort from the seed, and prints their tally.
+// Runtime and name are two parameters, here and below: a struct of both would be made anew for each sort.
 fn run_trials<F: FnMut(&mut Trials) -> anyhow::Result<()>>(
     rt: &HostRuntime,
     name: &str,

@@ -27,6 +27,7 @@ impl Docket {
     }
 
     /// How many strikes it has granted since it was opened.
+    // 0 of a closed docket and no `Option`: so it was decided, and callers rely on it
     pub fn count(&self) -> u32
         ensures { result ≡ self.now.count }
     {

@@ -49,6 +49,7 @@ impl Docket {
         }
     }
 
+    // `made` stays one clause: two would each match on the result again
     /// Makes the calls one after the other, each starting where the one before it ended, and appends their answers.
     ///
     /// Where there is no memory for the answers, no call is made. The contract carries the law over runs, whatever the docket and the table were before: once an opening among the calls is granted, no struck pair is in any simulation, and a settle check tells the truth.

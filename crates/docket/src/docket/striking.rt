@@ -77,6 +77,7 @@ impl Ledger {
     }
 
     /// Counts one more strike, and writes its number as the pair's entry.
+    // That the pair is in range is asked here and elsewhere: pairs are plain tuples, by a rule of this project.
     pub(super) fn mark(&mut self, table: &mut [u32], pair: (u16, u16)) -> u32
         requires row { pair.0 < self.old.rows }
         requires column { pair.1 < self.old.columns }
