@@ -1,5 +1,5 @@
 -- What the calls of a docket start from and lead to.
-use Rattle.std.specs.Prelude.{ℕ, ◌+◌, ◌*◌, Bool, true, false, List, ◌++◌, drop, replicate, slice_set}
+use Rattle.std.specs.Prelude.{ℕ, ◌+◌, ◌*◌, ◌≤◌, Bool, true, false, List, ◌++◌, drop, replicate, slice_set}
 use Rattle.arena.specs.Arena.{Arena}
 use Rattle.arena.specs.Table.{pairs}
 
@@ -9,6 +9,10 @@ pub record View : Type 0 where
   pub old_states : ℕ
   pub new_states : ℕ
   pub count : ℕ
+
+-- the bounds of every docket that exists: sizes up to 256, and no more strikes than pairs
+abbrev pub WithinBounds : View → Type 0
+WithinBounds docket = (docket.old_states ≤ 256) × (docket.new_states ≤ 256) × (docket.count ≤ docket.old_states * docket.new_states)
 
 -- a new docket
 abbrev pub closed : View

@@ -34,11 +34,13 @@ pub struct Docket {
 }
 
 impl Model for Docket {
-    ghost use Rattle.docket.specs.Position.{View};
+    ghost use Rattle.docket.specs.Position.{View, WithinBounds};
 
     ghost Value = { View };
 
     ghost use Rattle.docket.specs.Seen.{view_of};
 
     ghost view = { λ docket. view_of docket.ledger };
+
+    ghost invariant = { λ docket. WithinBounds (view_of docket.ledger) };
 }
