@@ -1,6 +1,7 @@
 pub mod Complete
 pub mod Described
 pub mod Faults
+pub mod Forward
 pub mod Grid
 pub mod Held
 pub mod Parts

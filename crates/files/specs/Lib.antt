@@ -2,6 +2,7 @@ pub mod Answer
 pub mod Refusal
 pub mod Sequence
 pub mod SystemFile
+pub mod StrikeList
 pub mod Words
 pub mod Flattening
 pub mod SystemWrite

@@ -7,7 +7,7 @@ use Rattle.files.specs.declared.fault.Reason.{Reason}
 use Rattle.files.specs.declared.fault.Reason.TheVariants.{Number, States, Channels, TooShort, Moves, NextState}
 
 -- the number of the refusal of a number that cannot be read
-abbrev number_refusal : NumberFault → ℕ
+abbrev pub number_refusal : NumberFault → ℕ
 number_refusal Ends = 15
 number_refusal TooLong = 16
 number_refusal TooLarge = 17

@@ -1,13 +1,22 @@
 -- Numbers that stand one behind the other in a list of bytes, by the places where they begin.
-use Rattle.std.specs.Prelude.{◌≡◌, ℕ, zero, suc, ◌-◌, List, [], ◌∷◌, length, drop, Ok, Err, Result}
+use Rattle.std.specs.Prelude.{◌≡◌, ℕ, zero, suc, ◌-◌, ◌≤◌, List, [], ◌∷◌, length, drop, Ok, Err, Result}
 use Rattle.std.specs.Result.{result_unwrap_or}
 use Rattle.codec.specs.Number.{number}
 use Rattle.codec.specs.declared.number.NumberFault.{NumberFault}
 
--- bytes, and the place in them where the next number begins
+-- bytes, and the place in them where what comes next begins
 pub record Cursor : Type 0 where
   pub bytes : List ℕ
   pub place : ℕ
+
+-- a reader that was inside its bytes went on inside them
+abbrev pub WentOn : Cursor → Cursor → Type 0
+WentOn before after = before.place ≤ length before.bytes → (before.place ≤ after.place) × (after.place ≤ length before.bytes)
+
+-- a part of the bytes, and the place where it begins
+pub record Part : Type 0 where
+  pub place : ℕ
+  pub bytes : List ℕ
 
 -- a number with its rest, as a number with the place where the rest begins
 abbrev pub placed : List ℕ → Result (ℕ × List ℕ) NumberFault → Result (ℕ × ℕ) NumberFault

@@ -1,11 +1,11 @@
-//! Numbers that stand one behind the other in bytes.
-ghost use Rattle.std.specs.Prelude.{◌≡◌};
+//! Numbers and parts that stand one behind the other in bytes.
+ghost use Rattle.std.specs.Prelude.{◌≡◌, ◌+◌, ◌<◌, ◌≤◌, length, take, drop, is_some, if◌then◌else◌, MatchOption};
 ghost use Rattle.files.specs.Sequence.{number_at, value_at, after, number_alone};
 
 use codec::{NumberFault, read_number};
 use std::marker::Model;
 
-/// Bytes, and the place in them where the next number begins.
+/// Bytes, and the place in them where what comes next begins.
 #[derive(Drop)]
 pub(crate) struct Reader<'a> {
     bytes: &'a [u8],
@@ -29,7 +29,7 @@ impl<'a> Reader<'a> {
         Reader { bytes, place }
     }
 
-    /// Where the next number begins.
+    /// Where what comes next begins.
     pub(crate) fn place(&self) -> usize
         ensures { result ≡ self.now.place }
     {
@@ -54,5 +54,15 @@ impl<'a> Reader<'a> {
         ensures place { self.new ≡ record self.old { place = after self.old.bytes self.old.place } }
     {
         self.number().unwrap_or(0)
+    }
+
+    /// Takes so many bytes; where there are fewer, stays.
+    pub(crate) fn part(&mut self, count: usize) -> Option<&'a [u8]>
+        ensures part { MatchOption result (length self.old.bytes < self.old.place + count) (λ part. (self.old.place + count ≤ length self.old.bytes) × (part.now ≡ take count (drop self.old.place self.old.bytes))) }
+        ensures place { self.new ≡ (if is_some result then record self.old { place = self.old.place + count } else self.old) }
+    {
+        let part = self.bytes.get(self.place..)?.get(..count)?;
+        self.place += count;
+        Some(part)
     }
 }
