@@ -1,6 +1,8 @@
 -- What sweeps count and keep, what it tells that one makes no strike, and where a decision ends.
-use Rattle.std.proofs.Common.{◌≡◌, ℕ, zero, suc, ◌+◌, ◌-◌, ◌*◌, ◌<◌, ◌≤◌, Bool, true, false, cond, not, ◌&&◌, eqb, ltb, List, length, Some, None, Ok, vec_items, Decides, sym, refl, ap, ◌∙◌, subst, inl, inr, add-zero, add_assoc, arith}
+use Rattle.std.proofs.Common.{◌≡◌, ℕ, zero, suc, ◌+◌, ◌-◌, ◌*◌, ◌<◌, ◌≤◌, Bool, true, false, cond, not, ◌&&◌, eqb, ltb, ◌≢◌, List, [], ◌∷◌, ◌++◌, All, map, replicate, length, sum, Some, None, Ok, vec_items, Decides, Result, sym, refl, ap, ◌∙◌, subst, inl, inr, add-zero, add_assoc, append_assoc, arith}
 use Rattle.std.proofs.lemmas.List.{length-set}
+use Rattle.std.proofs.lemmas.List.Elements.{All-cons, All-nil}
+use Rattle.std.proofs.lemmas.List.Sums.{sum_by-cons}
 use Rattle.std.proofs.lemmas.Bool.{and_from, and_left, and_right, cases_Bool, cases_eq, cond_both, cond-false, cond-true, eq-eqb, eqb-false, eqb-true, le-ltb, lt-ltb, ne_eqb}
 use Rattle.arena.proofs.Simulation.{largest, replaces_by}
 use Rattle.arena.specs.Arena.{Arena, Closed}
@@ -8,15 +10,20 @@ use Rattle.arena.specs.Pairs.{Largest, Replaces}
 use Rattle.arena.specs.Table.{faulty, loose, number_standing, pairs, standing, stands, start_stands, struck}
 use Rattle.docket.proofs.Good.{Good, good_after, good_count, good_opened, good_swept}
 use Rattle.docket.proofs.Laws.{calm_none_loose}
-use Rattle.docket.specs.Decide.{Told, decision, full_budget, proposals, swept_out, with_earlier}
+use Rattle.docket.proofs.Runs.{after_more, answers_more}
+use Rattle.docket.specs.Decide.{IsRun, Told, decision, full_budget, proposals, swept_out, with_earlier}
 use Rattle.docket.specs.Position.{Position, marked, opened}
 use Rattle.docket.specs.Refusals.{if_granted, misfit, opening_refusal, unless, use_refusal}
-use Rattle.docket.specs.Run.{after, answers}
+use Rattle.docket.specs.Run.{after, answers, does, granted as granted_as, says}
 use Rattle.docket.specs.Settle.{first_loose, settle_says, settled_unless, settlement}
 use Rattle.docket.specs.Strikes.{open_does}
 use Rattle.docket.specs.Sweep.{Swept, sweep_pair, sweep_row, sweep_rows, swept}
 use Rattle.docket.specs.declared.call.Call.{Call}
+use Rattle.docket.specs.declared.call.Call.TheVariants.{Open, Sweep, Settle}
+use Rattle.docket.specs.declared.call.Grant.{Grant}
+use Rattle.docket.specs.declared.call.Grant.TheVariants.{Opened, Swept as SweptGrant, Checked}
 use Rattle.docket.specs.declared.decision.Decision.{Decision}
+use Rattle.docket.specs.declared.refusal.Refusal.{Refusal}
 use Rattle.docket.specs.declared.refusal.Refusal.TheVariants.{Closed as ClosedDocket, OtherSizes}
 use Rattle.docket.specs.declared.strike.Settlement.TheVariants.{Settled}
 use Rattle.docket.specs.declared.strike.Strike.{Strike}
@@ -220,6 +227,58 @@ module _ (A : Arena) (c : Closed A) where
       (λ none. (good, eqb-true (swept A x full_budget).made 0 none))
       (λ some. swept_out_enough most (swept A x full_budget).position (good_swept A c x good full_budget) (fewer_left A x most enough some))
 
+-- a full sweep for each number of strikes, and one more
+abbrev sweeps : List ℕ → List Call
+sweeps made = replicate (suc (length made)) (Sweep full_budget)
+
+-- their answers
+abbrev swept_answers : List ℕ → List (Result Grant Refusal)
+swept_answers made = map (λ n. Ok (SweptGrant n)) (made ++ 0 ∷ [])
+
+-- Full sweeps from x to y, as calls: each but the last makes some strikes, and the last none.
+pub record SweptOut (A : Arena) (x : Position) (y : Swept) : Type 0 where
+  pub made : List ℕ
+  pub each_strikes : All (λ n. n ≢ 0) made
+  pub total : y.made ≡ sum made
+  pub answered : answers A x (sweeps made) ≡ swept_answers made
+  pub ended : y.position ≡ after A x (sweeps made)
+
+module _ (A : Arena) (c : Closed A) where
+  -- a sweep in use, as a call
+  sweep_answers : (x : Position) → Good A x → says A x (Sweep full_budget) ≡ Ok (SweptGrant (swept A x full_budget).made)
+  sweep_answers x good = ap (λ o. granted_as (λ n. SweptGrant n) (unless o (swept A x full_budget).made)) good.in_use
+
+  sweep_leads : (x : Position) → Good A x → does A x (Sweep full_budget) ≡ (swept A x full_budget).position
+  sweep_leads x good = ap (λ o. if_granted o (swept A x full_budget).position x) good.in_use
+
+  last_sweep : (x : Position) → Good A x → (swept A x full_budget).made ≡ 0 → SweptOut A x (started x)
+  last_sweep x good none = record {
+    made = [];
+    each_strikes = All-nil (λ n. n ≢ 0);
+    total = refl;
+    answered = ap (λ r. r ∷ []) (sweep_answers x good ∙ ap (λ n. Ok (SweptGrant n)) none);
+    ended = sym (sweep_leads x good ∙ none_made_same A x full_budget none);
+  }
+
+  pub swept_out_calls : (most : ℕ) (x : Position) → Good A x → pairs A ≤ x.docket.count + most → SweptOut A x (swept_out A most x)
+  swept_out_calls zero x good enough = last_sweep x good (full_makes_none A x (omega arith) full_budget)
+  swept_out_calls (suc most) x good enough =
+      cond_both (makes_none A x) (started x) (further A most x) (λ z. SweptOut A x z)
+      (λ none. last_sweep x good (eqb-true (swept A x full_budget).made 0 none))
+      (λ some.
+      let n : ℕ = (swept A x full_budget).made in
+      let rest = swept_out_calls most (swept A x full_budget).position (good_swept A c x good full_budget) (fewer_left A x most enough some) in
+      record {
+        made = n ∷ rest.made;
+        each_strikes = All-cons (λ n. n ≢ 0) n rest.made (eqb-false n 0 some) rest.each_strikes;
+        total = ap (λ m. n + m) rest.total ∙ sym (sum_by-cons (λ k. k) n rest.made);
+        answered =
+            ap (λ r. r ∷ answers A (does A x (Sweep full_budget)) (sweeps rest.made)) (sweep_answers x good)
+            ∙ ap (λ z. Ok (SweptGrant n) ∷ answers A z (sweeps rest.made)) (sweep_leads x good)
+            ∙ ap (λ rs. Ok (SweptGrant n) ∷ rs) rest.answered;
+        ended = rest.ended ∙ ap (λ z. after A z (sweeps rest.made)) (sym (sweep_leads x good));
+      })
+
 -- the strikes of all the sweeps are counted, and the sizes stay
 pub swept_out_from : (A : Arena) (most : ℕ) (x : Position) → SweptFrom x (swept_out A most x)
 swept_out_from A zero x = swept_from_start x
@@ -294,6 +353,47 @@ module _ (A : Arena) (c : Closed A) (x : Position) (calls : List Call) (granted 
     pub largest_behind_sweeps : Largest A (standing A y.table)
     largest_behind_sweeps = none_made_largest A c y swept_good.0 full_budget (omega arith) swept_good.1
 
+    swept_calls : SweptOut A q (record { position = y; made = m })
+    swept_calls = subst (λ z. SweptOut A q z) (sym third) (swept_out_calls A c (pairs A) q good_behind_calls (omega arith))
+
+    -- the sweeps and the settle check
+    abbrev last_calls : List Call
+    last_calls = sweeps swept_calls.made ++ Settle ∷ []
+
+    last_calls_lead : y ≡ after A q last_calls
+    last_calls_lead = swept_calls.ended ∙ sym (after_more A q (sweeps swept_calls.made) (Settle ∷ []))
+
+    last_calls_answer : answers A q last_calls ≡ swept_answers swept_calls.made ++ Ok (Checked (Settled (number_standing A y.table))) ∷ []
+    last_calls_answer =
+        answers_more A q (sweeps swept_calls.made) (Settle ∷ [])
+        ∙ ap (λ rs. rs ++ answers A (after A q (sweeps swept_calls.made)) (Settle ∷ [])) swept_calls.answered
+        ∙ ap (λ z. swept_answers swept_calls.made ++ answers A z (Settle ∷ [])) (sym swept_calls.ended)
+        ∙ ap (λ r. swept_answers swept_calls.made ++ granted_as (λ s. Checked s) r ∷ []) settled_behind_sweeps
+
+    -- the decision is a run
+    run_told : (d : Decision) (strikes : List Strike) → calls ≡ proposals strikes → vec_items d.answers ≡ answers A p calls → d.swept ≡ m → d.standing ≡ number_standing A y.table → IsRun A x strikes d y
+    run_told d strikes as_calls answered swept counted = record {
+      made = swept_calls.made;
+      each_strikes = swept_calls.each_strikes;
+      total = swept ∙ swept_calls.total;
+      answered =
+          ap (λ cs. answers A x cs) (append_assoc (Open ∷ proposals strikes) (sweeps swept_calls.made) (Settle ∷ []))
+          ∙ ap (λ o. granted_as (λ n. Opened n) (unless o (pairs A)) ∷ answers A (if_granted o (opened A x) x) (proposals strikes ++ last_calls)) granted
+          ∙ ap (λ cs. Ok (Opened (pairs A)) ∷ answers A (opened A x) (cs ++ last_calls)) (sym as_calls)
+          ∙ ap (λ rs. Ok (Opened (pairs A)) ∷ rs) (answers_more A (opened A x) calls last_calls)
+          ∙ ap (λ rs. Ok (Opened (pairs A)) ∷ rs ++ answers A (after A (opened A x) calls) last_calls) (sym (answered ∙ answers_behind))
+          ∙ ap (λ z. Ok (Opened (pairs A)) ∷ vec_items d.answers ++ answers A z last_calls) (sym behind_calls)
+          ∙ ap (λ rs. Ok (Opened (pairs A)) ∷ vec_items d.answers ++ rs) (last_calls_answer ∙ ap (λ n. swept_answers swept_calls.made ++ Ok (Checked (Settled n)) ∷ []) (sym counted))
+          ∙ sym (append_assoc (Ok (Opened (pairs A)) ∷ vec_items d.answers) (swept_answers swept_calls.made) (Ok (Checked (Settled d.standing)) ∷ []));
+      ended =
+          last_calls_lead
+          ∙ ap (λ z. after A z last_calls) behind_calls
+          ∙ sym (after_more A (opened A x) calls last_calls)
+          ∙ ap (λ cs. after A (opened A x) (cs ++ last_calls)) as_calls
+          ∙ ap (λ o. after A (if_granted o (opened A x) x) (proposals strikes ++ last_calls)) (sym granted)
+          ∙ sym (ap (λ cs. after A x cs) (append_assoc (Open ∷ proposals strikes) (sweeps swept_calls.made) (Settle ∷ [])));
+    }
+
     -- all that the decision tells
     pub told : (d : Decision) (z : Position) (strikes : List Strike) → calls ≡ proposals strikes → z ≡ y → vec_items d.answers ≡ answers A p calls → d.swept ≡ m → d.standing ≡ number_standing A y.table → d.replaces ≡ start_stands A z.table → Told A x strikes d z
     told d z strikes as_calls same answered swept counted verdict =
@@ -306,6 +406,7 @@ module _ (A : Arena) (c : Closed A) (x : Position) (calls : List Call) (granted 
           swept = swept ∙ ap (λ o. o.made) ended;
           counted = counted ∙ ap (λ o. number_standing A o.table) (sym same);
           verdict = verdict;
+          run = subst (λ o. IsRun A x strikes d o) (sym same) (run_told d strikes as_calls answered swept counted);
           largest = large;
           decides = subst (λ b. Decides b (Replaces A)) (sym verdict) (replaces_by A z.table large);
         }

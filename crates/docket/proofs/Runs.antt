@@ -1,5 +1,5 @@
 -- The loop over the calls of a run.
-use Rattle.std.proofs.Common.{◌≡◌, ℕ, ◌+◌, ◌<◌, ◌≤◌, List, [], ◌∷◌, ◌++◌, length, get_or, take, drop, Result, sym, ap, ◌∙◌, append_assoc, append-nil}
+use Rattle.std.proofs.Common.{◌≡◌, ℕ, ◌+◌, ◌<◌, ◌≤◌, List, [], ◌∷◌, ◌++◌, length, get_or, take, drop, Result, refl, sym, ap, ◌∙◌, append_assoc, append-nil}
 use mathlib.Core.List.{map-append}
 use Rattle.std.proofs.lemmas.List.{at_drop_all, at_drop_more, take_all, take_more}
 use Rattle.arena.specs.Arena.{Arena}
@@ -26,6 +26,16 @@ module _ (A : Arena) (calls : List Call) (i : ℕ) (any : Call) where
       ∙ ap (λ a. given ++ a ∷ answers A y (drop (i + 1) calls)) s
       ∙ ap (λ z. given ++ says A x (get_or calls i any) ∷ answers A z (drop (i + 1) calls)) e
       ∙ sym (at_drop_more (λ cs. given ++ answers A x cs) calls i any l)
+
+-- calls made behind others
+module _ (A : Arena) where
+  pub after_more : (x : Position) (calls more : List Call) → after A x (calls ++ more) ≡ after A (after A x calls) more
+  after_more x [] more = refl
+  after_more x (call ∷ calls) more = after_more (does A x call) calls more
+
+  pub answers_more : (x : Position) (calls more : List Call) → answers A x (calls ++ more) ≡ answers A x calls ++ answers A (after A x calls) more
+  answers_more x [] more = refl
+  answers_more x (call ∷ calls) more = ap (λ rest. says A x call ∷ rest) (answers_more (does A x call) calls more)
 
 -- no calls are left
 pub after_all : (A : Arena) (calls : List Call) (i : ℕ) (x y : Position) → length calls ≤ i → after A y (drop i calls) ≡ x → y ≡ x

@@ -1,5 +1,5 @@
 -- Decisions: an opening, the strikes that are proposed, sweeps until one makes none, and the verdict.
-use Rattle.std.specs.Prelude.{◌≡◌, ℕ, zero, suc, ◌+◌, cond, List, map, length, Some, None, Ok, Err, vec_items, Decides, Result, ◌==◌}
+use Rattle.std.specs.Prelude.{◌≡◌, ℕ, zero, suc, ◌+◌, cond, List, [], ◌∷◌, ◌++◌, All, map, replicate, length, sum, Some, None, Ok, Err, vec_items, Decides, Result, ◌==◌, ◌≢◌}
 use Rattle.arena.specs.Arena.{Arena}
 use Rattle.arena.specs.Pairs.{Largest, Replaces}
 use Rattle.arena.specs.Table.{number_standing, pairs, standing, start_stands}
@@ -8,10 +8,14 @@ use Rattle.docket.specs.Refusals.{opening_refusal}
 use Rattle.docket.specs.Run.{after, answers}
 use Rattle.docket.specs.Sweep.{Swept, swept}
 use Rattle.docket.specs.declared.call.Call.{Call}
-use Rattle.docket.specs.declared.call.Call.TheVariants.{Strike}
+use Rattle.docket.specs.declared.call.Call.TheVariants.{Open, Strike, Sweep, Settle}
+use Rattle.docket.specs.declared.call.Grant.{Grant}
+use Rattle.docket.specs.declared.call.Grant.TheVariants.{Opened, Swept as SweptGrant, Checked}
 use Rattle.docket.specs.declared.decision.DecideError.{DecideError}
 use Rattle.docket.specs.declared.decision.DecideError.TheVariants.{NoMemory, Refused}
 use Rattle.docket.specs.declared.decision.Decision.{Decision}
+use Rattle.docket.specs.declared.refusal.Refusal.{Refusal}
+use Rattle.docket.specs.declared.strike.Settlement.TheVariants.{Settled}
 use Rattle.docket.specs.declared.strike.Strike.{Strike as Proposal}
 
 -- the budget of each sweep of a decision
@@ -38,6 +42,23 @@ proposals strikes = map (λ s. Strike s) strikes
 abbrev pub decision : Arena → Position → List Proposal → Swept
 decision A x strikes = swept_out A (pairs A) (after A (opened A x) (proposals strikes))
 
+-- the calls of a decision that takes so many sweeps
+abbrev pub decision_calls : List Proposal → ℕ → List Call
+decision_calls strikes sweeps = Open ∷ proposals strikes ++ replicate sweeps (Sweep full_budget) ++ Settle ∷ []
+
+-- what they answer, with how many strikes each sweep made before the last, which made none
+abbrev pub decision_answers : Arena → Decision → List ℕ → List (Result Grant Refusal)
+decision_answers A d made = Ok (Opened (pairs A)) ∷ vec_items d.answers ++ map (λ n. Ok (SweptGrant n)) (made ++ 0 ∷ []) ++ Ok (Checked (Settled d.standing)) ∷ []
+
+-- That a decision is the run of its calls from x to y, with sweeps until one makes no strike.
+pub record IsRun (A : Arena) (x : Position) (strikes : List Proposal) (d : Decision) (y : Position) : Type 0 where
+  -- how many strikes each sweep made before the last
+  pub made : List ℕ
+  pub each_strikes : All (λ n. n ≢ 0) made
+  pub total : d.swept ≡ sum made
+  pub answered : answers A x (decision_calls strikes (suc (length made))) ≡ decision_answers A d made
+  pub ended : y ≡ after A x (decision_calls strikes (suc (length made)))
+
 -- What a decision tells that began at x and ended at y.
 pub record Told (A : Arena) (x : Position) (strikes : List Proposal) (d : Decision) (y : Position) : Type 0 where
   pub granted : opening_refusal A (length x.table) ≡ None
@@ -46,6 +67,7 @@ pub record Told (A : Arena) (x : Position) (strikes : List Proposal) (d : Decisi
   pub swept : d.swept ≡ (decision A x strikes).made
   pub counted : d.standing ≡ number_standing A y.table
   pub verdict : d.replaces ≡ start_stands A y.table
+  pub run : IsRun A x strikes d y
   -- and what that means, whatever was proposed
   pub largest : Largest A (standing A y.table)
   pub decides : Decides d.replaces (Replaces A)
