@@ -153,18 +153,25 @@ fn misfits(rt: &HostRuntime) -> anyhow::Result<()> {
     tell_systems(rt, "a table just long enough", &small, &small, 4)
 }
 
-/// Strikes that are refused before the pair is looked at.
-fn unfit_strikes(rt: &HostRuntime) -> anyhow::Result<()> {
+/// Calls on an open docket that are refused before a pair is looked at.
+fn unfit_calls(rt: &HostRuntime) -> anyhow::Result<()> {
     let old = Buffer::new(2);
     let new = Buffer::new(1);
     let two = Joint::new(Buffer::new(2), Buffer::new(0));
+    let single = Buffer::new(0);
+    let three = three_buffers();
     let exchange = exact(&old, &new);
+    let turned = exact(&new, &old);
     let mut desk = Desk::new(rt, 0, 6)?;
     desk.open("two against one", &exchange)?;
-    desk.strike("other sizes", &exact(&new, &old), by_sight(9, 9))?;
+    desk.strike("other sizes", &turned, by_sight(9, 9))?;
+    desk.sweep(&turned, 9)?;
+    desk.settle(&turned)?;
     desk.strike("other channels", &exact(&two, &new), by_sight(9, 9))?;
     desk.table = vec![in rt.alloc(); 0u32; 5]?;
-    desk.strike("short table", &exchange, by_sight(9, 9))
+    desk.strike("short table", &exchange, by_sight(9, 9))?;
+    desk.open("one state against one", &exact(&single, &single))?;
+    desk.strike("27 moves", &exact(&three, &three), by_sight(9, 9))
 }
 
 /// A strike refused for each number from 7 on, in their order, and some that are granted.
@@ -311,7 +318,7 @@ fn main(rt: HostRuntime) -> anyhow::Result<()> {
     numbers(&rt)?;
     sizes(&rt)?;
     misfits(&rt)?;
-    unfit_strikes(&rt)?;
+    unfit_calls(&rt)?;
     reopened(&rt)?;
     foreign_table(&rt)?;
     sweeps(&rt)?;
