@@ -73,6 +73,7 @@ fn check_pair<A: Arena>(board: &Board<'_, A>, pair: (u16, u16)) -> Result<(), Ce
 }
 
 /// Checks that every pair is in order, in the order of their places.
+#[tactic(auto, using(crate::proofs::Refused::fault_at))]
 fn check_pairs<A: Arena>(board: &Board<'_, A>) -> Result<(), CertificateFault>
     ensures { result ≡ unless (first_fault (A.Arena.view board.now.arena.now) board.now.table.now) tt }
 {
