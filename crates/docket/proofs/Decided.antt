@@ -1,6 +1,6 @@
 -- What sweeps count and keep, what it tells that one makes no strike, and where a decision ends.
-use Rattle.std.proofs.Common.{◌≡◌, ℕ, zero, suc, ◌+◌, ◌-◌, ◌*◌, ◌<◌, ◌≤◌, Bool, true, false, cond, not, ◌&&◌, eqb, ltb, ◌≢◌, List, [], ◌∷◌, ◌++◌, All, map, replicate, length, sum, Some, None, Ok, vec_items, Decides, Result, sym, refl, ap, ◌∙◌, subst, inl, inr, add-zero, add_assoc, append_assoc, arith}
-use Rattle.std.proofs.lemmas.List.{length-set}
+use Rattle.std.proofs.Common.{◌≡◌, ℕ, zero, suc, ◌+◌, ◌*◌, ◌<◌, ◌≤◌, Bool, true, false, ◌&&◌, eqb, ltb, ◌≢◌, List, [], ◌∷◌, ◌++◌, All, map, replicate, length, sum, None, Ok, vec_items, Decides, Result, sym, refl, ap, ◌∙◌, subst, inl, inr, append_assoc, arith}
+use Rattle.std.proofs.lemmas.Nat.{mul-le}
 use Rattle.std.proofs.lemmas.List.Elements.{All-cons, All-nil}
 use Rattle.std.proofs.lemmas.List.Sums.{sum_by-cons}
 use Rattle.std.proofs.lemmas.Bool.{and_from, and_left, and_right, cases_Bool, cases_eq, cond_both, cond-false, cond-true, eq-eqb, eqb-false, eqb-true, le-ltb, lt-ltb, ne_eqb}
@@ -13,7 +13,7 @@ use Rattle.docket.proofs.Laws.{calm_none_loose}
 use Rattle.docket.proofs.Runs.{after_more, answers_more}
 use Rattle.docket.specs.Decide.{IsRun, Told, decision, full_budget, proposals, swept_out, with_earlier}
 use Rattle.docket.specs.Position.{Position, marked, opened}
-use Rattle.docket.specs.Refusals.{if_granted, misfit, opening_refusal, unless, use_refusal}
+use Rattle.docket.specs.Refusals.{if_granted, opening_refusal, unless, use_refusal}
 use Rattle.docket.specs.Run.{after, answers, does, granted as granted_as, says}
 use Rattle.docket.specs.Settle.{first_loose, settle_says, settled_unless, settlement}
 use Rattle.docket.specs.Strikes.{open_does}
@@ -24,17 +24,14 @@ use Rattle.docket.specs.declared.call.Grant.{Grant}
 use Rattle.docket.specs.declared.call.Grant.TheVariants.{Opened, Swept as SweptGrant, Checked}
 use Rattle.docket.specs.declared.decision.Decision.{Decision}
 use Rattle.docket.specs.declared.refusal.Refusal.{Refusal}
-use Rattle.docket.specs.declared.refusal.Refusal.TheVariants.{Closed as ClosedDocket, OtherSizes}
 use Rattle.docket.specs.declared.strike.Settlement.TheVariants.{Settled}
 use Rattle.docket.specs.declared.strike.Strike.{Strike}
 
 -- A sweep under way from a position: its strikes are counted, and the sizes stay.
 pub record SweptFrom (x : Position) (y : Swept) : Type 0 where
   pub counts : y.position.docket.count ≡ x.docket.count + y.made
-  pub is_open : y.position.docket.is_open ≡ x.docket.is_open
   pub old_states : y.position.docket.old_states ≡ x.docket.old_states
   pub new_states : y.position.docket.new_states ≡ x.docket.new_states
-  pub entries : length y.position.table ≡ length x.table
 
 -- whether a sweep under way strikes the pair
 abbrev strikes_now : Arena → ℕ → ℕ → ℕ → Swept → Bool
@@ -49,7 +46,7 @@ abbrev pub started : Position → Swept
 started x = record { position = x; made = 0 }
 
 pub swept_from_start : (x : Position) → SweptFrom x (started x)
-swept_from_start x = record { counts = omega arith; is_open = refl; old_states = refl; new_states = refl; entries = refl }
+swept_from_start x = record { counts = omega arith; old_states = refl; new_states = refl }
 
 module _ (A : Arena) (x : Position) (budget : ℕ) where
   pub swept_from_pair : (w v : ℕ) (y : Swept) → SweptFrom x y → SweptFrom x (sweep_pair A budget w v y)
@@ -57,10 +54,8 @@ module _ (A : Arena) (x : Position) (budget : ℕ) where
       cond_both (strikes_now A budget w v y) (one_made A w v y) y (λ z. SweptFrom x z)
       (λ _. record {
         counts = omega (arith, h.counts);
-        is_open = h.is_open;
         old_states = h.old_states;
         new_states = h.new_states;
-        entries = length-set y.position.table (w * A.new_states + v) (y.position.docket.count + 1) ∙ h.entries;
       })
       (λ _. h)
 
@@ -77,6 +72,12 @@ swept_from A x budget = swept_from_rows A x budget A.old_states (started x) (swe
 
 pub swept_counts : (A : Arena) (x : Position) (budget : ℕ) → (swept A x budget).position.docket.count ≡ x.docket.count + (swept A x budget).made
 swept_counts A x budget = (swept_from A x budget).counts
+
+pub swept_old_states : (A : Arena) (x : Position) (budget : ℕ) → (swept A x budget).position.docket.old_states ≡ x.docket.old_states
+swept_old_states A x budget = (swept_from A x budget).old_states
+
+pub swept_new_states : (A : Arena) (x : Position) (budget : ℕ) → (swept A x budget).position.docket.new_states ≡ x.docket.new_states
+swept_new_states A x budget = (swept_from A x budget).new_states
 
 -- a sweep that has made none has changed nothing
 module _ (A : Arena) (budget : ℕ) where
@@ -279,49 +280,9 @@ module _ (A : Arena) (c : Closed A) where
         ended = rest.ended ∙ ap (λ z. after A z (sweeps rest.made)) (sym (sweep_leads x good));
       })
 
--- the strikes of all the sweeps are counted, and the sizes stay
-pub swept_out_from : (A : Arena) (most : ℕ) (x : Position) → SweptFrom x (swept_out A most x)
-swept_out_from A zero x = swept_from_start x
-swept_out_from A (suc most) x =
-    cond_both (makes_none A x) (started x) (further A most x) (λ z. SweptFrom x z)
-    (λ _. swept_from_start x)
-    (λ _.
-    let first = swept_from A x full_budget in
-    let rest = swept_out_from A most (swept A x full_budget).position in
-    record {
-      counts = omega (arith, first.counts, rest.counts);
-      is_open = rest.is_open ∙ first.is_open;
-      old_states = rest.old_states ∙ first.old_states;
-      new_states = rest.new_states ∙ first.new_states;
-      entries = rest.entries ∙ first.entries;
-    })
-
--- One round of full sweeps: from x a sweep leads to y and makes m strikes, behind t that were made before.
-module _ (A : Arena) (x y : Position) (m t : ℕ) (e : record { position = y; made = m } ≡ swept A x full_budget) where
-  pub round_from : SweptFrom x (record { position = y; made = m })
-  round_from = subst (λ z. SweptFrom x z) (sym e) (swept_from A x full_budget)
-
-  -- there are strikes to come
-  pub round_goes_on : (all : Swept) → (m ≡ 0 → ⊥) → with_earlier t (swept_out A (pairs A) x) ≡ all → with_earlier (t + m) (swept_out A (pairs A) y) ≡ all
-  round_goes_on all some h =
-      (λ i. record { position = (swept_out A (pairs A) y).position; made = add_assoc t m (swept_out A (pairs A) y).made i })
-      ∙ ap (λ z. with_earlier t (with_earlier z.made (swept_out A (pairs A) z.position))) e
-      ∙ ap (λ z. with_earlier t z) (sym (swept_out_next A x (λ none. some (ap (λ z. z.made) e ∙ none))))
-      ∙ h
-
-  -- there are none
-  pub round_ends : (all : Swept) → m ≡ 0 → with_earlier t (swept_out A (pairs A) x) ≡ all → record { position = y; made = t } ≡ all
-  round_ends all none h =
-      let still : (swept A x full_budget).made ≡ 0 = sym (ap (λ z. z.made) e) ∙ none in
-      (λ i. record { position = (ap (λ z. z.position) e ∙ none_made_same A x full_budget still) i; made = sym (add-zero t) i })
-      ∙ ap (λ z. with_earlier t z) (sym (swept_out_last A x still))
-      ∙ h
-
--- each round but the last leaves fewer strikes to come
-pub fewer_to_come : (rows columns rows' columns' n n' m : ℕ) → rows' ≡ rows → columns' ≡ columns → n' ≤ rows' * columns' → n' ≡ n + m → (m ≡ 0 → ⊥) → rows * columns - n' < rows * columns - n
-fewer_to_come rows columns rows' columns' n n' m er ec most counts some =
-    let same : rows' * columns' ≡ rows * columns = ap (λ r. r * columns') er ∙ ap (λ k. rows * k) ec in
-    omega (arith, same, most, counts, some)
+-- no docket has more pairs
+pub pairs_most : (rows columns : ℕ) → rows ≤ 256 → columns ≤ 256 → rows * columns ≤ 65536
+pairs_most rows columns few_rows few_columns = mul-le rows columns 256 256 few_rows few_columns
 
 -- A decision whose opening is granted: behind the opening it is at p, behind the calls at q, and the sweeps lead from there to y.
 module _ (A : Arena) (c : Closed A) (x : Position) (calls : List Call) (granted : opening_refusal A (length x.table) ≡ None) (p q : Position) (first : p ≡ open_does A x) (second : q ≡ after A p calls) where
@@ -340,38 +301,35 @@ module _ (A : Arena) (c : Closed A) (x : Position) (calls : List Call) (granted 
   pub used_behind_calls : use_refusal A q ≡ None
   used_behind_calls = good_behind_calls.in_use
 
-  module _ (y : Position) (m : ℕ) (third : record { position = y; made = m } ≡ swept_out A (pairs A) q) where
-    pub behind_sweeps : record { position = y; made = m } ≡ swept_out A (pairs A) (after A (opened A x) calls)
-    behind_sweeps = third ∙ ap (λ z. swept_out A (pairs A) z) behind_calls
-
+  module _ (y : Position) (third : y ≡ (swept_out A (pairs A) q).position) where
     swept_good : Good A y × ((swept A y full_budget).made ≡ 0)
-    swept_good = subst (λ z. Good A z.position × ((swept A z.position full_budget).made ≡ 0)) (sym third) (swept_out_enough A c (pairs A) q good_behind_calls (omega arith))
+    swept_good = subst (λ z. Good A z × ((swept A z full_budget).made ≡ 0)) (sym third) (swept_out_enough A c (pairs A) q good_behind_calls (omega arith))
 
     pub settled_behind_sweeps : settle_says A y ≡ Ok (Settled (number_standing A y.table))
     settled_behind_sweeps = none_made_says A c y swept_good.0 full_budget (omega arith) swept_good.1
 
-    pub largest_behind_sweeps : Largest A (standing A y.table)
+    largest_behind_sweeps : Largest A (standing A y.table)
     largest_behind_sweeps = none_made_largest A c y swept_good.0 full_budget (omega arith) swept_good.1
 
-    swept_calls : SweptOut A q (record { position = y; made = m })
-    swept_calls = subst (λ z. SweptOut A q z) (sym third) (swept_out_calls A c (pairs A) q good_behind_calls (omega arith))
+    swept_calls : SweptOut A q (swept_out A (pairs A) q)
+    swept_calls = swept_out_calls A c (pairs A) q good_behind_calls (omega arith)
 
     -- the sweeps and the settle check
     abbrev last_calls : List Call
     last_calls = sweeps swept_calls.made ++ Settle ∷ []
 
     last_calls_lead : y ≡ after A q last_calls
-    last_calls_lead = swept_calls.ended ∙ sym (after_more A q (sweeps swept_calls.made) (Settle ∷ []))
+    last_calls_lead = third ∙ swept_calls.ended ∙ sym (after_more A q (sweeps swept_calls.made) (Settle ∷ []))
 
     last_calls_answer : answers A q last_calls ≡ swept_answers swept_calls.made ++ Ok (Checked (Settled (number_standing A y.table))) ∷ []
     last_calls_answer =
         answers_more A q (sweeps swept_calls.made) (Settle ∷ [])
         ∙ ap (λ rs. rs ++ answers A (after A q (sweeps swept_calls.made)) (Settle ∷ [])) swept_calls.answered
-        ∙ ap (λ z. swept_answers swept_calls.made ++ answers A z (Settle ∷ [])) (sym swept_calls.ended)
+        ∙ ap (λ z. swept_answers swept_calls.made ++ answers A z (Settle ∷ [])) (sym (third ∙ swept_calls.ended))
         ∙ ap (λ r. swept_answers swept_calls.made ++ granted_as (λ s. Checked s) r ∷ []) settled_behind_sweeps
 
     -- the decision is a run
-    run_told : (d : Decision) (strikes : List Strike) → calls ≡ proposals strikes → vec_items d.answers ≡ answers A p calls → d.swept ≡ m → d.standing ≡ number_standing A y.table → IsRun A x strikes d y
+    run_told : (d : Decision) (strikes : List Strike) → calls ≡ proposals strikes → vec_items d.answers ≡ answers A p calls → d.swept ≡ (swept_out A (pairs A) q).made → d.standing ≡ number_standing A y.table → IsRun A x strikes d y
     run_told d strikes as_calls answered swept counted = record {
       made = swept_calls.made;
       each_strikes = swept_calls.each_strikes;
@@ -395,15 +353,15 @@ module _ (A : Arena) (c : Closed A) (x : Position) (calls : List Call) (granted 
     }
 
     -- all that the decision tells
-    pub told : (d : Decision) (z : Position) (strikes : List Strike) → calls ≡ proposals strikes → z ≡ y → vec_items d.answers ≡ answers A p calls → d.swept ≡ m → d.standing ≡ number_standing A y.table → d.replaces ≡ start_stands A z.table → Told A x strikes d z
+    pub told : (d : Decision) (z : Position) (strikes : List Strike) → calls ≡ proposals strikes → z ≡ y → vec_items d.answers ≡ answers A p calls → d.swept ≡ (swept_out A (pairs A) q).made → d.standing ≡ number_standing A y.table → d.replaces ≡ start_stands A z.table → Told A x strikes d z
     told d z strikes as_calls same answered swept counted verdict =
-        let ended : record { position = y; made = m } ≡ decision A x strikes = behind_sweeps ∙ ap (λ cs. swept_out A (pairs A) (after A (opened A x) cs)) as_calls in
+        let swept_from_calls : swept_out A (pairs A) q ≡ decision A x strikes = ap (λ z. swept_out A (pairs A) z) behind_calls ∙ ap (λ cs. swept_out A (pairs A) (after A (opened A x) cs)) as_calls in
         let large : Largest A (standing A z.table) = subst (λ o. Largest A (standing A o.table)) (sym same) largest_behind_sweeps in
         record {
           granted = granted;
           answered = answered ∙ answers_behind ∙ ap (λ cs. answers A (opened A x) cs) as_calls;
-          ended = same ∙ ap (λ o. o.position) ended;
-          swept = swept ∙ ap (λ o. o.made) ended;
+          ended = same ∙ third ∙ ap (λ o. o.position) swept_from_calls;
+          swept = swept ∙ ap (λ o. o.made) swept_from_calls;
           counted = counted ∙ ap (λ o. number_standing A o.table) (sym same);
           verdict = verdict;
           run = subst (λ o. IsRun A x strikes d o) (sym same) (run_told d strikes as_calls answered swept counted);

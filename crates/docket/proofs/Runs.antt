@@ -1,16 +1,12 @@
 -- The loop over the calls of a run.
-use Rattle.std.proofs.Common.{◌≡◌, ℕ, ◌+◌, ◌<◌, ◌≤◌, List, [], ◌∷◌, ◌++◌, length, get_or, take, drop, Result, refl, sym, ap, ◌∙◌, append_assoc, append-nil}
-use mathlib.Core.List.{map-append}
-use Rattle.std.proofs.lemmas.List.{at_drop_all, at_drop_more, take_all, take_more}
+use Rattle.std.proofs.Common.{◌≡◌, ℕ, ◌+◌, ◌<◌, ◌≤◌, List, [], ◌∷◌, ◌++◌, length, get_or, drop, Result, refl, sym, ap, ◌∙◌, append_assoc, append-nil}
+use Rattle.std.proofs.lemmas.List.{at_drop_all, at_drop_more}
 use Rattle.arena.specs.Arena.{Arena}
-use Rattle.docket.specs.Decide.{proposals}
 use Rattle.docket.specs.Position.{Position}
 use Rattle.docket.specs.Run.{after, answers, does, says}
 use Rattle.docket.specs.declared.call.Call.{Call}
-use Rattle.docket.specs.declared.call.Call.TheVariants.{Strike as Strikes}
 use Rattle.docket.specs.declared.call.Grant.{Grant}
 use Rattle.docket.specs.declared.refusal.Refusal.{Refusal}
-use Rattle.docket.specs.declared.strike.Strike.{Strike}
 
 module _ (A : Arena) (calls : List Call) (i : ℕ) (any : Call) where
   -- where the calls that are left lead, when one more is made

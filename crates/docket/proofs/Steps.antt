@@ -1,11 +1,9 @@
 -- The count over the first entries of a table.
-use Rattle.std.proofs.Common.{◌≡◌, ℕ, zero, suc, ◌+◌, ◌≤◌, Bool, cond, List, length, get_or, take, sym, ap, ◌∙◌, refl, subst, inl, inr, add-one, arith}
+use Rattle.std.proofs.Common.{◌≡◌, ℕ, zero, suc, ◌+◌, ◌≤◌, Bool, cond, List, length, get_or, take, refl, subst, inl, inr, add-one, arith}
 use Rattle.std.proofs.lemmas.Bool.{cases_Bool, cond-false, cond-true}
 use Rattle.std.proofs.lemmas.List.Sums.{count_by_more_no, count_by_more_yes}
 use Rattle.std.specs.List.{count_by}
-use Rattle.arena.specs.Arena.{Arena}
 use Rattle.arena.specs.Bounds.{count_below}
-use Rattle.docket.specs.Sweep.{Swept, sweep_pair, sweep_row, sweep_rows}
 
 -- the first entries of a list that pass, counted by their places
 pub counted_below : (n : ℕ) (f : ℕ → Bool) (xs : List ℕ) → n ≤ length xs → count_by f (take n xs) ≡ count_below n (λ i. f (get_or xs i 0))

@@ -1,10 +1,10 @@
 //! Deciding an exchange.
-ghost use Rattle.std.specs.Prelude.{◌≡◌, ◌≤◌, List, [], length, IfOk, vec_len, vec_capacity};
-ghost use Rattle.arena.specs.Table.{pairs};
+ghost use Rattle.std.specs.Prelude.{◌≡◌, ◌+◌, ◌≤◌, List, [], length, IfOk, vec_len, vec_capacity};
+ghost use Rattle.arena.specs.Table.{pairs, start_stands};
 ghost use Rattle.docket.specs.Decide.{Decided, full_budget, proposals, swept_out};
 ghost use Rattle.docket.specs.Position.{position};
 ghost use Rattle.docket.specs.Seen.{ledger_view};
-ghost use Rattle.docket.specs.Sweep.{sweeping, swept};
+ghost use Rattle.docket.specs.Sweep.{swept};
 ghost use Rattle.docket.specs.Use.{InUse};
 ghost use Rattle.docket.specs.declared.strike.Strike.{Strike};
 
@@ -26,19 +26,33 @@ fn as_calls(heap: Global, strikes: &[Strike]) -> Result<Vec<Call>, AllocError>
     strikes.iter().copied().map(Call::Strike).collect(heap)
 }
 
+/// Whether the new system replaces the old, by a table that is settled.
+fn verdict<A: Arena>(arena: &A, table: &[u32]) -> bool
+    ensures { result ≡ start_stands (A.Arena.view arena.now) table.now }
+{
+    (Board { arena, table }).start_stands()
+}
+
 impl Ledger {
     /// Sweeps with the full budget, and tells how many strikes that made.
+    #[tactic(auto, using(crate::proofs::Decided::swept_counts, crate::proofs::Decided::swept_old_states, crate::proofs::Decided::swept_new_states))]
     fn sweep_fully<A: Arena>(&mut self, arena: &A, table: &mut [u32]) -> u32
         requires used { InUse (A.Arena.view arena.now) (position (ledger_view self.old) table.old) }
-        ensures { sweeping (ledger_view self.new) table.new result ≡ swept (A.Arena.view arena.now) (position (ledger_view self.old) table.old) full_budget }
+        ensures made { result ≡ (swept (A.Arena.view arena.now) (position (ledger_view self.old) table.old) full_budget).made }
+        ensures after { position (ledger_view self.new) table.new ≡ (swept (A.Arena.view arena.now) (position (ledger_view self.old) table.old) full_budget).position }
+        ensures count { self.new.count ≡ self.old.count + result }
+        ensures rows { self.new.rows ≡ self.old.rows }
+        ensures columns { self.new.columns ≡ self.old.columns }
     {
         self.sweep(arena, table, FULL_BUDGET)
     }
 
     /// Sweeps with the full budget until a sweep makes no strike, and tells how many strikes they made.
+    #[tactic(auto, using(crate::proofs::Decided::pairs_most, crate::proofs::Decided::swept_out_next, crate::proofs::Decided::swept_out_last, crate::proofs::Decided::none_made_same))]
     fn sweep_out<A: Arena>(&mut self, arena: &A, table: &mut [u32]) -> u32
         requires used { InUse (A.Arena.view arena.now) (position (ledger_view self.old) table.old) }
-        ensures { sweeping (ledger_view self.new) table.new result ≡ swept_out (A.Arena.view arena.now) (pairs (A.Arena.view arena.now)) (position (ledger_view self.old) table.old) }
+        ensures made { result ≡ (swept_out (A.Arena.view arena.now) (pairs (A.Arena.view arena.now)) (position (ledger_view self.old) table.old)).made }
+        ensures after { position (ledger_view self.new) table.new ≡ (swept_out (A.Arena.view arena.now) (pairs (A.Arena.view arena.now)) (position (ledger_view self.old) table.old)).position }
     {
         let mut total = 0;
         // no range and no chain: how many sweeps it takes shows only at the last
@@ -77,12 +91,11 @@ impl Docket {
         let Ok(Settlement::Settled(standing)) = self.settle(arena, table) else {
             unreachable()
         };
-        let replaces = (Board { arena, table }).start_stands();
         Ok(Decision {
             answers,
             swept,
             standing,
-            replaces,
+            replaces: verdict(arena, table),
         })
     }
 

@@ -4,7 +4,7 @@ use Rattle.docket.proofs.Decided.{settled_behind_sweeps, told, used_behind_calls
 use Rattle.docket.proofs.Grounds.{in_use}
 use Rattle.docket.proofs.Refused.{no_refusal, refusal_of}
 use Rattle.docket.specs.Position.{closed, position}
-use Rattle.docket.specs.Run.{after, answers}
+use Rattle.docket.specs.Run.{answers}
 use Rattle.docket.specs.Seen.{ledger_view, view_of}
 use Rattle.docket.specs.Settle.{settle_says}
 use Rattle.docket.specs.declared.strike.Settlement.TheVariants.{Settled}
@@ -38,7 +38,7 @@ unreachable-requires-in_default-settle g c =
     let seen : ledger_view c.in-Some.ledger ≡ c.run.new.self = subst (λ o. view_of o ≡ c.run.new.self) c.in-Some.is c.self.view_is in
     let behind = ap (λ d. position d c.run.new.table) seen ∙ c.in-Ok.ensures.made.1 in
     let settled : settle_says A y ≡ Ok (Settled (number_standing A y.table)) =
-    settled_behind_sweeps A (g.A.Arena.closed c.args.arena.now) x c.args.calls.now (no_refusal _ _ _ c.in_ok-open.ensures.answer) _ q c.in_ok-open.ensures.after behind y c.sweep_out-swept.result c.sweep_out-swept.ensures in
+    settled_behind_sweeps A (g.A.Arena.closed c.args.arena.now) x c.args.calls.now (no_refusal _ _ _ c.in_ok-open.ensures.answer) _ q c.in_ok-open.ensures.after behind y c.sweep_out-swept.ensures.after in
     let says = c.settle.ensures ∙ settled in
     search (rules, says)
 
@@ -54,11 +54,11 @@ returns g c =
     let seen : ledger_view c.in-Some.ledger ≡ c.run.new.self = subst (λ o. view_of o ≡ c.run.new.self) c.in-Some.is c.self.view_is in
     let behind = ap (λ d. position d c.run.new.table) seen ∙ c.in-Ok.ensures.made.1 in
     let settled : settle_says A y ≡ Ok (Settled (number_standing A y.table)) =
-    settled_behind_sweeps A no_way_out x c.args.calls.now granted p q c.in_ok-open.ensures.after behind y c.sweep_out-swept.result c.sweep_out-swept.ensures in
+    settled_behind_sweeps A no_way_out x c.args.calls.now granted p q c.in_ok-open.ensures.after behind y c.sweep_out-swept.ensures.after in
     let counted : c.in-Ok-Settled.standing ≡ number_standing A y.table = cc (c.settle.ensures ∙ settled) in
     λ strikes e.
-    told A no_way_out x c.args.calls.now granted p q c.in_ok-open.ensures.after behind y c.sweep_out-swept.result c.sweep_out-swept.ensures
-    _ y strikes e refl (c.in-Ok.ensures.made.0 ∙ ap (λ given. given ++ answers A p c.args.calls.now) c.requires.none) refl counted c.start_stands-replaces.ensures
+    told A no_way_out x c.args.calls.now granted p q c.in_ok-open.ensures.after behind y c.sweep_out-swept.ensures.after
+    _ y strikes e refl (c.in-Ok.ensures.made.0 ∙ ap (λ given. given ++ answers A p c.args.calls.now) c.requires.none) c.sweep_out-swept.ensures.made counted c.verdict.ensures
 
 pub returns-in_err-open : goal.returns-in_err-open
 returns-in_err-open g c =
