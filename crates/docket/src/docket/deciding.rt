@@ -27,10 +27,10 @@ fn as_calls(heap: Global, strikes: &[Strike]) -> Result<Vec<Call>, AllocError>
 }
 
 /// Whether the new system replaces the old, by a table that is settled.
-fn verdict<A: Arena>(arena: &A, table: &[u32]) -> bool
-    ensures { result ≡ start_stands (A.Arena.view arena.now) table.now }
+fn verdict<A: Arena>(board: &Board<'_, A>) -> bool
+    ensures { result ≡ start_stands (A.Arena.view board.now.arena.now) board.now.table.now }
 {
-    (Board { arena, table }).start_stands()
+    board.start_stands()
 }
 
 impl Ledger {
@@ -95,7 +95,7 @@ impl Docket {
             answers,
             swept,
             standing,
-            replaces: verdict(arena, table),
+            replaces: verdict(&Board { arena, table }),
         })
     }
 
