@@ -1,6 +1,7 @@
 //! The likeness of readings that differ little.
-ghost use Rattle.std.specs.Prelude.{◌≡◌, replicate};
+ghost use Rattle.std.specs.Prelude.{◌≡◌, ◌<◌, ◌≤◌, replicate, IfErr, IfOk};
 ghost use Rattle.likeness.specs.Within.{Mild, set_answer, tolerance_of, tolerances_after, within};
+ghost use Rattle.likeness.specs.declared.within.ToleranceFault.TheVariants.{TooWide};
 
 use crate::likeness::Likeness;
 
@@ -49,6 +50,19 @@ impl Within {
         Within {
             tolerances: [0; TOLERANCE_CHANNELS],
         }
+    }
+
+    /// The same tolerance on every channel that can have one.
+    pub fn uniform(tolerance: u16) -> Result<Within, ToleranceFault>
+        ensures granted { IfOk result (λ within. (tolerance ≤ 1000) × (within.tolerances ≡ replicate 8 tolerance)) }
+        ensures refused { IfErr result (λ fault. (1000 < tolerance) × (fault ≡ TooWide)) }
+    {
+        if tolerance > MAX_TOLERANCE {
+            return Err(ToleranceFault::TooWide);
+        }
+        Ok(Within {
+            tolerances: [tolerance; TOLERANCE_CHANNELS],
+        })
     }
 
     /// The tolerance of the channel.
