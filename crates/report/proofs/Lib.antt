@@ -1,0 +1,3 @@
+pub mod Listed
+pub mod Told
+pub mod Written

@@ -1,0 +1,49 @@
+-- What the decision of an input tells of the output.
+use Rattle.std.proofs.Common.{rules, ◌≡◌, ℕ, List, length, replicate, Some, None, Err, Result, refl, sym, ap, ◌∙◌}
+use Rattle.std.specs.Prelude.{option_map}
+use Rattle.systems.specs.Meaning.{Meaning}
+use Rattle.systems.specs.Layout.{stored, stored_words}
+use Rattle.systems.proofs.LaidOut.{stored_words_kept}
+use Rattle.likeness.specs.Within.{within}
+use Rattle.arena.specs.Arena.{Arena}
+use Rattle.arena.specs.Exchange.{exchange}
+use Rattle.docket.specs.Decide.{Decided, Told}
+use Rattle.docket.specs.Position.{Position, View, closed, position}
+use Rattle.docket.specs.Refusals.{opening_refusal}
+use Rattle.docket.specs.declared.decision.DecideError.{DecideError}
+use Rattle.docket.specs.declared.decision.DecideError.TheVariants.{Refused}
+use Rattle.docket.specs.declared.decision.Decision.{Decision}
+use Rattle.docket.specs.declared.refusal.Refusal.{Refusal}
+use Rattle.docket.specs.declared.strike.Strike.{Strike}
+use Rattle.report.specs.Fault.{fault_at}
+use Rattle.report.specs.Input.{Holds, list_place, new_system, old_system, strikes, tolerance}
+use Rattle.report.specs.Output.{Tells, begun, exchange_of, opening_fault, table_room}
+use Rattle.report.specs.declared.fault.InputReason.TheVariants.{Opening}
+
+-- the stored system over the words that were read is the input's
+pub stored_is : (m : Meaning) (words lent kept : List ℕ) → Holds m words → lent ≡ words → kept ≡ stored_words lent → stored kept ≡ m
+stored_is m words lent kept holds l k = ap stored (k ∙ ap stored_words l ∙ stored_words_kept words holds.0) ∙ holds.1
+
+-- what was read of an input is its exchange
+pub exchange_is : (input : List ℕ) (old new : Meaning) (tolerances : List ℕ) → old ≡ old_system input → new ≡ new_system input → tolerances ≡ replicate 8 (tolerance input) → exchange old new (within tolerances) ≡ exchange_of input
+exchange_is input old new tolerances o n t = rw (o, n, t) refl
+
+-- a decision of what was read is that of the input
+pub decided_of : (input : List ℕ) (A : Arena) (docket : View) (table : List ℕ) (proposed : List Strike) (found r : Result Decision DecideError) (y : Position) → A ≡ exchange_of input → docket ≡ closed → table ≡ begun.table → proposed ≡ strikes input → found ≡ r → Decided A (position docket table) proposed found y → Decided (exchange_of input) begun (strikes input) r y
+unfolding begun
+decided_of input A docket table proposed found r y a d t p f decided = rw (a, d, t, p, f) at decided
+
+entries_of_begun : length begun.table ≡ table_room
+unfolding begun
+entries_of_begun = search rules
+
+-- a granted decision tells the output
+pub tells : (input : List ℕ) (d : Decision) (y : Position) → Told (exchange_of input) begun (strikes input) d y → (opening_fault input ≡ None) × Tells input (strikes input) d
+tells input d y told = (
+  ap (option_map (λ refusal. fault_at (Opening refusal) (list_place input))) (ap (opening_refusal (exchange_of input)) (sym entries_of_begun) ∙ told.granted),
+  record { lines = rw (told.answered, told.swept, told.counted, told.verdict, told.ended) refl; decides = told.decides },
+)
+
+-- a refused opening is the output's fault
+pub refused : (input : List ℕ) (y : Position) (refusal : Refusal) → Decided (exchange_of input) begun (strikes input) (Err (Refused refusal)) y → opening_fault input ≡ Some (fault_at (Opening refusal) (list_place input))
+refused input y refusal decided = ap (option_map (λ refusal. fault_at (Opening refusal) (list_place input))) (ap (opening_refusal (exchange_of input)) (sym entries_of_begun) ∙ decided.0)

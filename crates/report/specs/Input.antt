@@ -1,0 +1,126 @@
+-- What an input holds: a tolerance, the file of the old system, that of the new one, and a list of strikes to its end.
+use Rattle.std.specs.Prelude.{◌≡◌, ℕ, zero, suc, cond, List, [], ◌∷◌, ◌++◌, length, replicate, Some, None, Ok, Err, Option, Result, nat_lt, option_map}
+use Rattle.std.specs.Result.{result_err, result_unwrap_or}
+use Rattle.systems.specs.Bounded.{or_else}
+use Rattle.systems.specs.Layout.{LaidOut, stored}
+use Rattle.systems.specs.Meaning.{Meaning}
+use Rattle.arena.specs.declared.cause.Cause.TheVariants.{Sight, Move}
+use Rattle.docket.specs.declared.strike.Strike.{Strike}
+use Rattle.files.specs.Sequence.{number_at, value_at, after}
+use Rattle.files.specs.StrikeList.{record_at}
+use Rattle.files.specs.SystemFile.{described, file_fault, file_read}
+use Rattle.files.specs.declared.list_fault.ListFault.{ListFault}
+use Rattle.files.specs.declared.record.Record.{Record}
+use Rattle.files.specs.declared.record.Record.TheVariants.{Sight as SightRecord, Move as MoveRecord, Maker, Remark}
+use Rattle.report.specs.Fault.{fault_at, of_list, of_system}
+use Rattle.report.specs.declared.fault.InputFault.{InputFault}
+use Rattle.report.specs.declared.fault.InputReason.TheVariants.{TooLong, Tolerance, TooWide}
+use Rattle.report.specs.declared.input.Input.{Input}
+
+-- how many bytes an input may have
+abbrev pub most_bytes : ℕ
+most_bytes = 32768
+
+-- how many words there are for each system: enough for 64 states of eight channels
+abbrev pub system_room : ℕ
+system_room = 17026
+
+-- the tolerance, which comes first
+abbrev pub tolerance : List ℕ → ℕ
+tolerance input = value_at input 0
+
+-- where the file of the old system begins
+abbrev pub old_place : List ℕ → ℕ
+old_place input = after input 0
+
+-- where the file of the new system begins
+abbrev pub new_place : List ℕ → ℕ
+new_place input = (file_read input (old_place input)).end
+
+-- where the list begins
+abbrev pub list_place : List ℕ → ℕ
+list_place input = (file_read input (new_place input)).end
+
+-- the old system
+abbrev pub old_system : List ℕ → Meaning
+old_system input = described input (old_place input)
+
+-- the new system
+abbrev pub new_system : List ℕ → Meaning
+new_system input = described input (new_place input)
+
+-- words hold a system in its layout
+abbrev pub Holds : Meaning → List ℕ → Type 0
+Holds m words = LaidOut words × (stored words ≡ m)
+
+-- the strike that a record proposes, if it is none of a maker and no remark
+abbrev pub strike_of : Record → Option Strike
+strike_of (SightRecord pair) = Some (record { pair = pair; cause = Sight })
+strike_of (MoveRecord pair a) = Some (record { pair = pair; cause = Move a })
+strike_of (Maker text) = None
+strike_of (Remark text) = None
+
+-- strikes with another behind them, if there is one
+abbrev pub kept : List Strike → Option Strike → List Strike
+kept strikes None = strikes
+kept strikes (Some strike) = strikes ++ (strike ∷ [])
+
+-- a strike in front of others, if there is one
+abbrev pub in_front : Option Strike → Result (List Strike) ListFault → Result (List Strike) ListFault
+in_front strike (Err fault) = Err fault
+in_front None (Ok strikes) = Ok strikes
+in_front (Some strike) (Ok strikes) = Ok (strike ∷ strikes)
+
+-- the strikes of an answer of record_at and of the records behind it; none where the list has ended
+abbrev pub and_behind : (ℕ → Result (List Strike) ListFault) → Result (Option (Record × ℕ)) ListFault → Result (List Strike) ListFault
+and_behind behind (Ok None) = Ok []
+and_behind behind (Ok (Some read)) = in_front (strike_of read.0) (behind read.1)
+and_behind behind (Err fault) = Err fault
+
+-- the strikes of the records from a place on, at most so many records, or the first fault among them
+abbrev pub strikes_from : ℕ → List ℕ → ℕ → Result (List Strike) ListFault
+strikes_from zero input place = Ok []
+strikes_from (suc most) input place = and_behind (strikes_from most input) (record_at input place)
+
+-- the strikes of the list that begins at a place; no record is without a byte, so that there are no more records than bytes
+unfoldable pub listed : List ℕ → ℕ → Result (List Strike) ListFault
+listed input place = strikes_from (length input) input place
+
+-- the strikes that are proposed
+abbrev pub strikes : List ℕ → List Strike
+strikes input = result_unwrap_or (listed input (list_place input)) []
+
+-- the fault of an input that is too long
+abbrev pub length_fault : List ℕ → Option InputFault
+length_fault input = cond (nat_lt most_bytes (length input)) (Some (fault_at TooLong most_bytes)) None
+
+-- the fault of the tolerance
+abbrev pub tolerance_fault : List ℕ → Option InputFault
+tolerance_fault input =
+    or_else (option_map (λ why. fault_at (Tolerance why) 0) (result_err (number_at input 0)))
+    (cond (nat_lt 1000 (tolerance input)) (Some (fault_at TooWide 0)) None)
+
+-- the first fault of the system file at a place
+abbrev pub system_fault : List ℕ → ℕ → Option InputFault
+system_fault input place = option_map of_system (file_fault input place system_room)
+
+-- the first fault of the list at a place
+abbrev pub list_fault : List ℕ → ℕ → Option InputFault
+list_fault input place = option_map of_list (result_err (listed input place))
+
+-- the first fault of an input
+abbrev pub input_fault : List ℕ → Option InputFault
+input_fault input =
+    or_else (length_fault input)
+    (or_else (tolerance_fault input)
+    (or_else (system_fault input (old_place input))
+    (or_else (system_fault input (new_place input))
+    (list_fault input (list_place input)))))
+
+-- What was read of an input.
+pub record IsRead (input : List ℕ) (read : Input) : Type 0 where
+  pub tolerances : read.likeness.tolerances ≡ replicate 8 (tolerance input)
+  pub old : Holds (old_system input) read.old.items
+  pub new : Holds (new_system input) read.new.items
+  pub strikes : read.strikes.items ≡ strikes input
+  pub list_place : read.list_place ≡ list_place input

@@ -1,0 +1,6 @@
+pub mod Answer
+pub mod Failure
+pub mod Fault
+pub mod Input
+pub mod Lines
+pub mod Output

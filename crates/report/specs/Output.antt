@@ -1,0 +1,74 @@
+-- The output for every input.
+use Rattle.std.specs.Prelude.{◌≡◌, ℕ, List, replicate, Some, None, Ok, Err, Decides, Option, Result, option_map}
+use Rattle.systems.specs.Bounded.{or_else}
+use Rattle.likeness.specs.Within.{within}
+use Rattle.arena.specs.Arena.{Arena}
+use Rattle.arena.specs.Exchange.{exchange}
+use Rattle.arena.specs.Pairs.{Replaces}
+use Rattle.arena.specs.Table.{number_standing, start_stands}
+use Rattle.docket.specs.Decide.{decision, proposals}
+use Rattle.docket.specs.Position.{Position, closed, opened, position}
+use Rattle.docket.specs.Refusals.{opening_refusal}
+use Rattle.docket.specs.Run.{answers}
+use Rattle.docket.specs.Sweep.{Swept}
+use Rattle.docket.specs.declared.decision.Decision.{Decision}
+use Rattle.docket.specs.declared.strike.Strike.{Strike}
+use Rattle.report.specs.Fault.{fault_at, fault_line}
+use Rattle.report.specs.Input.{input_fault, list_place, new_system, old_system, strikes, tolerance}
+use Rattle.report.specs.Lines.{decision_lines, decision_text, verdict_text}
+use Rattle.report.specs.declared.error.ReportError.{ReportError}
+use Rattle.report.specs.declared.error.ReportError.TheVariants.{NoMemory, Refused}
+use Rattle.report.specs.declared.fault.InputFault.{InputFault}
+use Rattle.report.specs.declared.fault.InputReason.TheVariants.{Opening}
+use Rattle.report.specs.declared.lines.Verdict.{Verdict}
+
+-- how many entries the table has
+abbrev pub table_room : ℕ
+table_room = 4096
+
+-- the exchange of an input's two systems, whose readings may differ by the tolerance on every channel
+abbrev pub exchange_of : List ℕ → Arena
+exchange_of input = exchange (old_system input) (new_system input) (within (replicate 8 (tolerance input)))
+
+-- a closed docket and a table in which nothing is struck
+unfoldable pub begun : Position
+begun = position closed (replicate table_room 0)
+
+-- the fault of the opening, which is refused at the place of the list
+abbrev pub opening_fault : List ℕ → Option InputFault
+opening_fault input = option_map (λ refusal. fault_at (Opening refusal) (list_place input)) (opening_refusal (exchange_of input) table_room)
+
+-- the first fault of an input, that of the opening included
+abbrev pub fault_of : List ℕ → Option InputFault
+fault_of input = or_else (input_fault input) (opening_fault input)
+
+-- the decision of an input, where it has no fault
+abbrev pub decided : List ℕ → Swept
+decided input = decision (exchange_of input) begun (strikes input)
+
+-- the lines of that decision
+abbrev pub decided_text : List ℕ → List ℕ
+decided_text input =
+    let A = exchange_of input in
+    let table = (decided input).position.table in
+    decision_text (strikes input) (answers A (opened A begun) (proposals (strikes input))) (decided input).made (number_standing A table) (start_stands A table)
+
+-- the line of a fault, else the lines of a decision
+abbrev pub text_unless : Option InputFault → List ℕ → List ℕ
+text_unless (Some fault) text = fault_line fault
+text_unless None text = text
+
+-- every byte that is printed for an input
+abbrev pub output : List ℕ → List ℕ
+output input = text_unless (fault_of input) (decided_text input)
+
+-- What a decision tells: the lines of the output, and whether the new system replaces the old.
+pub record Tells (input : List ℕ) (strikes : List Strike) (d : Decision) : Type 0 where
+  pub lines : decision_lines strikes d ≡ decided_text input
+  pub decides : Decides d.replaces (Replaces (exchange_of input))
+
+-- the text of an answer is the output, unless memory is wanting
+abbrev pub IsPrinted : List ℕ → Result Verdict ReportError → Type 0
+IsPrinted input (Ok verdict) = verdict_text verdict ≡ output input
+IsPrinted input (Err (Refused fault)) = fault_line fault ≡ output input
+IsPrinted input (Err NoMemory) = Unit {0}
