@@ -9,7 +9,7 @@ use Rattle.likeness.specs.SeaState.{class_of}
 use Rattle.likeness.specs.Within.{within}
 use Rattle.arena.specs.Arena.{Arena}
 use Rattle.arena.specs.Exchange.{exchange}
-use Rattle.arena.specs.Table.{number_standing, start_stands}
+use Rattle.arena.specs.Table.{number_standing, pairs, start_stands}
 use Rattle.docket.specs.Certificate.{certificate_says}
 use Rattle.docket.specs.Decide.{decision, full_budget}
 use Rattle.docket.specs.Position.{Position, closed, position}
@@ -18,11 +18,11 @@ use Rattle.docket.specs.declared.call.Call.{Call}
 use Rattle.docket.specs.declared.call.Call.TheVariants.{Open, Sweep}
 use Rattle.docket.specs.declared.call.Grant.TheVariants.{Opened, Swept}
 use Rattle.docket.specs.declared.certificate.CertificateFault.TheVariants.{Unfounded}
-use Rattle.ranking.specs.Rank.{ranked}
+use Rattle.ranking.specs.Rank.{rank_does, rank_says}
 
 -- how many there are
 abbrev pub example_count : ℕ
-example_count = 16
+example_count = 18
 
 -- the exchange of a buffer of one capacity for one of another, compared exactly
 abbrev pub buffers : ℕ → ℕ → Arena
@@ -46,9 +46,11 @@ pub record WorkedExamples : Type 0 where
   pub within_4 : within (replicate 8 4) 0 (pos 5) (pos 9) ≡ true
   pub not_within_3 : within (replicate 8 3) 0 (pos 5) (pos 9) ≡ false
   pub joint_steps : (joint (buffer 1) (buffer 1)).next 0 5 1 ≡ 2
+  pub six_pairs : pairs (buffers 1 2) ≡ 6
   pub two_stand : number_standing (buffers 1 2) (decision (buffers 1 2) begun []).position.table ≡ 2
   pub larger_replaces : start_stands (buffers 1 2) (decision (buffers 1 2) begun []).position.table ≡ true
-  pub ranks : ranked (buffers 2 1) (replicate 6 0) ≡ 3 ∷ 1 ∷ 1 ∷ 2 ∷ 1 ∷ 1 ∷ []
+  pub ranks : rank_does (buffers 2 1) (replicate 6 0) ≡ 3 ∷ 1 ∷ 1 ∷ 2 ∷ 1 ∷ 1 ∷ []
+  pub highest_rank : rank_says (buffers 2 1) (replicate 6 0) ≡ Ok 3
   pub sweeps : answers (buffers 2 1) begun four_sweeps ≡ Ok (Opened 6) ∷ Ok (Swept 4) ∷ Ok (Swept 1) ∷ Ok (Swept 1) ∷ Ok (Swept 0) ∷ []
   pub swept_table : (after (buffers 2 1) begun four_sweeps).table ≡ 6 ∷ 1 ∷ 2 ∷ 5 ∷ 3 ∷ 4 ∷ []
   pub ranks_accepted : certificate_says (buffers 2 1) (3 ∷ 1 ∷ 1 ∷ 2 ∷ 1 ∷ 1 ∷ []) ≡ Ok (record { standing = 0; replaces = false })
