@@ -1,6 +1,10 @@
 //! Systems, likenesses, system files and the docket in plain Rust, written
 //! from `docs/` alone.
 
+pub mod arena;
+pub mod board;
+pub mod certificate;
+pub mod docket;
 pub mod file;
 pub mod layers;
 pub mod likeness;
