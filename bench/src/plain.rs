@@ -3,6 +3,7 @@
 
 pub mod arena;
 pub mod board;
+pub mod calls;
 pub mod certificate;
 pub mod docket;
 pub mod file;

@@ -1,0 +1,173 @@
+//! The calls that every implementation offers, so that several can be
+//! compared and timed beside each other. Adding one is one file with an
+//! `impl Implementation`, and its name in `main`.
+
+/// One side of an exchange, over the files that it is made from.
+#[derive(Clone, Debug)]
+pub enum Layer {
+    File(Vec<u8>),
+    Buffer(u8),
+    Joint(Box<Layer>, Box<Layer>),
+    Coded(Box<Layer>, Codes),
+}
+
+impl Layer {
+    pub fn joint(first: Layer, second: Layer) -> Layer {
+        Layer::Joint(Box::new(first), Box::new(second))
+    }
+
+    pub fn coded(below: Layer, codes: Codes) -> Layer {
+        Layer::Coded(Box::new(below), codes)
+    }
+}
+
+/// A code list on a channel: entries (from, to), at most eight, and a cut.
+#[derive(Clone, Debug)]
+pub struct Codes {
+    pub channel: u8,
+    pub cut: i16,
+    pub entries: Vec<(i16, i16)>,
+}
+
+#[derive(Clone, Debug)]
+pub enum Likeness {
+    Exact,
+    /// The tolerances of the channels from 0 on.
+    Within([u16; 8]),
+    /// The channel whose heights are compared by class.
+    SeaState(u8),
+}
+
+#[derive(Clone, Debug)]
+pub struct Exchange {
+    pub old: Layer,
+    pub new: Layer,
+    pub likeness: Likeness,
+}
+
+/// The memory that a call is lent.
+pub struct Memory<'a> {
+    /// Holds the systems of the old side's files, one behind the other.
+    pub old_words: &'a mut [u16],
+    /// Holds those of the new side.
+    pub new_words: &'a mut [u16],
+    pub table: &'a mut [u32],
+}
+
+/// The number of a refusal.
+pub type Refusal = u8;
+
+#[derive(Clone, Copy, Debug, PartialEq, Eq)]
+pub struct Pair {
+    pub old: u16,
+    pub new: u16,
+}
+
+#[derive(Clone, Copy, Debug, PartialEq, Eq)]
+pub enum Cause {
+    Sight,
+    Move(u16),
+}
+
+#[derive(Clone, Copy, Debug, PartialEq, Eq)]
+pub struct Proposal {
+    pub pair: Pair,
+    pub cause: Cause,
+}
+
+/// A call on a docket.
+#[derive(Clone, Copy, Debug, PartialEq, Eq)]
+pub enum Call {
+    Open,
+    Strike(Proposal),
+    /// A sweep with its budget.
+    Sweep(u16),
+    Settle,
+}
+
+#[derive(Clone, Copy, Debug, PartialEq, Eq)]
+pub enum Answer {
+    /// The number of pairs.
+    Opened(u32),
+    /// The entry of the pair.
+    Struck(u32),
+    /// How many strikes the sweep made.
+    Swept(u16),
+    /// How many pairs stand.
+    Settled(u32),
+    /// The first loose pair, and the cause to strike it.
+    Loose(Pair, Cause),
+    Refused(Refusal),
+}
+
+#[derive(Clone, Copy, Debug, PartialEq, Eq)]
+pub struct ReadFault {
+    pub refusal: Refusal,
+    pub place: usize,
+    pub state: u16,
+}
+
+#[derive(Clone, Debug, PartialEq, Eq)]
+pub struct Decision {
+    pub answers: Vec<Result<u32, Refusal>>,
+    pub swept: u32,
+    pub standing: u32,
+    pub replaces: bool,
+}
+
+#[derive(Clone, Copy, Debug, PartialEq, Eq)]
+pub struct Accepted {
+    pub standing: u32,
+    pub replaces: bool,
+}
+
+/// Why a call on an exchange gives no result.
+#[derive(Clone, Copy, Debug, PartialEq, Eq)]
+pub enum Failure {
+    OldFile(ReadFault),
+    NewFile(ReadFault),
+    Refused(Refusal),
+    /// The first pair of a certificate that is out of order.
+    OutOfOrder(Refusal, Pair),
+}
+
+pub trait Implementation {
+    fn name(&self) -> &str;
+
+    /// Reads the file at a byte place into the words from a word place on;
+    /// tells the byte place behind the file.
+    fn read(
+        &self,
+        bytes: &[u8],
+        place: usize,
+        words: &mut [u16],
+        word_place: usize,
+    ) -> Result<usize, ReadFault>;
+
+    /// Reads the layer's files, which have to be whole and to fit, into the
+    /// words, and writes the file of the layer's system; tells how many bytes
+    /// it takes.
+    fn write(&self, layer: &Layer, words: &mut [u16], bytes: &mut [u8]) -> Result<usize, Refusal>;
+
+    fn decide(
+        &self,
+        exchange: &Exchange,
+        proposals: &[Proposal],
+        memory: &mut Memory,
+    ) -> Result<Decision, Failure>;
+
+    /// Makes the calls on a docket that is closed at first and on the table as
+    /// it is.
+    fn run(
+        &self,
+        exchange: &Exchange,
+        calls: &[Call],
+        memory: &mut Memory,
+    ) -> Result<Vec<Answer>, Failure>;
+
+    /// Checks the table as a certificate.
+    fn check(&self, exchange: &Exchange, memory: &mut Memory) -> Result<Accepted, Failure>;
+
+    /// Writes the ranks into the table; tells the highest.
+    fn rank(&self, exchange: &Exchange, memory: &mut Memory) -> Result<u32, Failure>;
+}
