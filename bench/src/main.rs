@@ -1,6 +1,25 @@
-//! Implementations of the rules, to be compared and timed.
+//! Compares implementations of the rules with the answers by definition.
 
+mod compare;
+mod draw;
 mod implementation;
+mod naive;
 mod plain;
 
-fn main() {}
+use std::process::ExitCode;
+
+use implementation::Implementation;
+use plain::calls::Plain;
+
+fn main() -> ExitCode {
+    let implementations: [&dyn Implementation; 1] = [&Plain];
+    let mut all_agreed = true;
+    for implementation in implementations {
+        all_agreed &= compare::compare(implementation);
+    }
+    if all_agreed {
+        ExitCode::SUCCESS
+    } else {
+        ExitCode::FAILURE
+    }
+}

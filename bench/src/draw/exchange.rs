@@ -1,0 +1,200 @@
+//! Drawn exchanges of every kind, and drawn calls on their dockets.
+
+use super::{Dice, Draft, Shape, chain, near_copy, random, random_up_to};
+use crate::implementation::{
+    Answer, Call, Cause, Codes, Exchange, Layer, Likeness, Pair, Proposal,
+};
+
+fn likeness(dice: &mut Dice) -> (Likeness, &'static [i16]) {
+    match dice.below(4) {
+        0 => {
+            let mut tolerances = [0; 8];
+            for tolerance in &mut tolerances {
+                *tolerance = dice.pick(&[0, 1, 4, 1_000]);
+            }
+            (Likeness::Within(tolerances), &[0, 1, 2, 5, -1, 1_001])
+        }
+        1 => {
+            let channel = dice.below(3) as u8;
+            let readings = &[-20, 0, 1, 10, 11, 50, 51, 900, 1_400, 1_401];
+            (Likeness::SeaState(channel), readings)
+        }
+        2 => (Likeness::Exact, &[0, 1, 2]),
+        _ => (Likeness::Exact, &[0, 1]),
+    }
+}
+
+fn codes(dice: &mut Dice, readings: &[i16]) -> Codes {
+    let mut entries = Vec::new();
+    for _ in 0..dice.below(4) {
+        entries.push((dice.pick(readings), dice.pick(readings)));
+    }
+    Codes {
+        channel: dice.below(3) as u8,
+        cut: dice.pick(&[i16::MIN, 0, 2, 3, 1_000, i16::MAX]),
+        entries,
+    }
+}
+
+fn file_of(draft: &Draft) -> Layer {
+    Layer::File(draft.file())
+}
+
+fn file(dice: &mut Dice, most: Shape) -> Layer {
+    file_of(&random_up_to(dice, most))
+}
+
+/// A layer that is a few levels deep.
+fn layer(dice: &mut Dice, most: Shape, depth: usize) -> Layer {
+    match dice.below(if depth == 0 { 3 } else { 7 }) {
+        0 => Layer::Buffer(dice.below(3) as u8),
+        1 | 2 => file(dice, most),
+        3 | 4 => {
+            let below = layer(dice, most, depth - 1);
+            let codes = codes(dice, most.readings);
+            Layer::coded(below, codes)
+        }
+        _ => {
+            let first = layer(dice, most, depth - 1);
+            Layer::joint(first, layer(dice, most, depth - 1))
+        }
+    }
+}
+
+pub fn exchange(dice: &mut Dice) -> Exchange {
+    let (likeness, readings) = likeness(dice);
+    let small = Shape {
+        states: 6,
+        channels: dice.between(1, 2),
+        controller: 3,
+        environment: 3,
+        readings,
+    };
+    let tiny = Shape {
+        states: 3,
+        channels: 1,
+        controller: 2,
+        environment: 2,
+        readings,
+    };
+    let (old, new) = match dice.below(11) {
+        0 => (file(dice, small), file(dice, small)),
+        1 => {
+            let shape = Shape {
+                environment: dice.between(1, 2),
+                ..small
+            };
+            (file_of(&random(dice, shape)), file_of(&random(dice, shape)))
+        }
+        2 | 3 => {
+            let old = random_up_to(dice, small);
+            let new = near_copy(dice, &old, readings);
+            (file_of(&old), file_of(&new))
+        }
+        4 => {
+            let mut side = || {
+                let (states, moves) = (dice.between(1, 9), dice.between(1, 3));
+                let last = dice.pick(readings);
+                file_of(&chain(states, moves, dice.between(1, 3), last))
+            };
+            (side(), side())
+        }
+        5 => {
+            let mut side = || {
+                let buffer = Layer::Buffer(dice.below(7) as u8);
+                if dice.once_in(2) {
+                    let codes = codes(dice, readings);
+                    Layer::coded(buffer, codes)
+                } else {
+                    buffer
+                }
+            };
+            (side(), side())
+        }
+        6 => {
+            // The same parts the other way round, or with one part changed.
+            let (first, second) = (random_up_to(dice, tiny), random_up_to(dice, tiny));
+            let changed = near_copy(dice, &second, readings);
+            let old = Layer::joint(file_of(&first), file_of(&second));
+            let new = if dice.once_in(3) {
+                Layer::joint(file_of(&second), file_of(&first))
+            } else {
+                Layer::joint(file_of(&first), file_of(&changed))
+            };
+            (old, new)
+        }
+        7 => {
+            let draft = random_up_to(dice, small);
+            let mut side = || {
+                let copy = near_copy(dice, &draft, readings);
+                let codes = codes(dice, readings);
+                Layer::coded(file_of(&copy), codes)
+            };
+            (side(), side())
+        }
+        8 => (layer(dice, tiny, 2), layer(dice, tiny, 2)),
+        // Many of the others are refused.
+        9 => {
+            let large = Layer::joint(
+                Layer::Buffer(dice.between(14, 17) as u8),
+                Layer::Buffer(dice.between(13, 16) as u8),
+            );
+            let other = layer(dice, tiny, 3);
+            if dice.once_in(2) {
+                (large, other)
+            } else {
+                (other, large)
+            }
+        }
+        _ => {
+            // With 9 moves and more, and sometimes 9 channels.
+            let part = Shape {
+                channels: dice.pick(&[1, 1, 7]),
+                ..tiny
+            };
+            let mut side = || {
+                let mut buffer = || Layer::Buffer(dice.below(2) as u8);
+                let joint = Layer::joint(buffer(), buffer());
+                Layer::joint(joint, file(dice, part))
+            };
+            (side(), side())
+        }
+    };
+    Exchange { old, new, likeness }
+}
+
+fn proposal(dice: &mut Dice, sizes: (usize, usize)) -> Proposal {
+    let (old, new) = sizes;
+    Proposal {
+        pair: Pair {
+            old: dice.below(old + 1) as u16,
+            new: dice.below(new + 1) as u16,
+        },
+        cause: if dice.once_in(3) {
+            Cause::Sight
+        } else {
+            Cause::Move(dice.below(4) as u16)
+        },
+    }
+}
+
+pub fn proposals(dice: &mut Dice, sizes: (usize, usize)) -> Vec<Proposal> {
+    let count = if dice.once_in(2) { 0 } else { dice.below(12) };
+    (0..count).map(|_| proposal(dice, sizes)).collect()
+}
+
+pub fn call(dice: &mut Dice, sizes: (usize, usize), before: Option<&Answer>) -> Call {
+    // A loose pair that a settle check names may be struck next.
+    if let Some(&Answer::Loose(pair, cause)) = before
+        && dice.once_in(2)
+    {
+        return Call::Strike(Proposal { pair, cause });
+    }
+    match dice.below(8) {
+        _ if before.is_none() && dice.once_in(2) => Call::Open,
+        0 => Call::Open,
+        1 => Call::Sweep(dice.pick(&[0, 1, 2, 5, u16::MAX])),
+        2 | 3 => Call::Settle,
+        _ => Call::Strike(proposal(dice, sizes)),
+    }
+}

@@ -1,0 +1,514 @@
+//! The answers by their definitions, without regard to speed.
+
+use std::collections::BTreeSet;
+
+use crate::draw::{Draft, DraftState};
+use crate::implementation::{
+    Accepted, Answer, Call, Cause, Codes, Decision, Exchange, Failure, Layer, Likeness, Pair,
+    Proposal, ReadFault, Refusal,
+};
+
+/// Takes a number off the bytes at a place; tells the place behind it.
+fn number_at(bytes: &[u8], place: usize) -> Result<(usize, usize), Refusal> {
+    let byte = |index: usize| bytes.get(place + index).copied().map(usize::from);
+    let first = byte(0).ok_or(15)?;
+    if first < 128 {
+        return Ok((first, place + 1));
+    }
+    let second = byte(1).ok_or(15)?;
+    if second < 128 {
+        return Ok((first - 128 + 128 * second, place + 2));
+    }
+    let third = byte(2).ok_or(15)?;
+    if third >= 128 {
+        return Err(16);
+    }
+    let number = first - 128 + 128 * (second - 128) + 128 * 128 * third;
+    if number > 65_535 {
+        return Err(17);
+    }
+    Ok((number, place + 3))
+}
+
+/// Reads a system file from a byte place on for so many free words; tells
+/// the byte place behind it.
+pub fn read(bytes: &[u8], place: usize, room: usize) -> Result<(Draft, usize), ReadFault> {
+    let mut place = place;
+    let mut take = |state: usize, wrong: &dyn Fn(usize) -> Option<Refusal>| {
+        let fault = |refusal| ReadFault {
+            refusal,
+            place,
+            state: state as u16,
+        };
+        let (number, behind) = number_at(bytes, place).map_err(fault)?;
+        if let Some(refusal) = wrong(number) {
+            return Err(fault(refusal));
+        }
+        place = behind;
+        Ok(number)
+    };
+    let outside = |number: usize, most: usize| number < 1 || number > most;
+    let count = take(0, &|number| outside(number, 256).then_some(18))?;
+    let channels = take(0, &|number| {
+        if outside(number, 8) {
+            Some(19)
+        } else if room < 2 + count * (number + 258) {
+            Some(20)
+        } else {
+            None
+        }
+    })?;
+    let mut states = Vec::new();
+    for state in 0..count {
+        let mut readings = Vec::new();
+        for _ in 0..channels {
+            let filed = take(state, &|_| None)? as i32;
+            let reading = if filed % 2 == 0 {
+                filed / 2
+            } else {
+                -(filed + 1) / 2
+            };
+            readings.push(reading as i16);
+        }
+        let controller = take(state, &|number| outside(number, 16).then_some(21))?;
+        let environment = take(state, &|number| outside(number, 16).then_some(21))?;
+        let mut next = Vec::new();
+        for _ in 0..controller * environment {
+            next.push(take(state, &|number| (number >= count).then_some(22))?);
+        }
+        states.push(DraftState {
+            readings,
+            controller,
+            environment,
+            next,
+        });
+    }
+    Ok((Draft { channels, states }, place))
+}
+
+/// The words of a stored system.
+pub fn words(draft: &Draft) -> Vec<u16> {
+    let mut words = vec![draft.states.len() as u16, draft.channels as u16];
+    for state in &draft.states {
+        for &reading in &state.readings {
+            words.push((i32::from(reading) + 32_768) as u16);
+        }
+        words.extend([state.controller as u16, state.environment as u16]);
+        let mut next = [0; 256];
+        for controller in 0..state.controller {
+            for environment in 0..state.environment {
+                next[controller * 16 + environment] =
+                    state.next[controller * state.environment + environment] as u16;
+            }
+        }
+        words.extend(next);
+    }
+    words
+}
+
+fn buffer(capacity: usize) -> Draft {
+    let states = (0..=capacity)
+        .map(|held| {
+            let wait = held;
+            let take = (held + 1).min(capacity);
+            let send = if held == 0 { 0 } else { held - 1 };
+            DraftState {
+                readings: vec![held as i16],
+                controller: 3,
+                environment: 2,
+                next: vec![wait, wait, take, take, send, held],
+            }
+        })
+        .collect();
+    Draft {
+        channels: 1,
+        states,
+    }
+}
+
+fn joint(first: &Draft, second: &Draft) -> Draft {
+    let mut states = Vec::new();
+    for u in &first.states {
+        for v in &second.states {
+            let mut next = Vec::new();
+            for own in 0..u.controller * v.controller {
+                for other in 0..u.environment * v.environment {
+                    let u_place = own / v.controller * u.environment + other / v.environment;
+                    let v_place = own % v.controller * v.environment + other % v.environment;
+                    next.push(u.next[u_place] * second.states.len() + v.next[v_place]);
+                }
+            }
+            states.push(DraftState {
+                readings: [u.readings.as_slice(), &v.readings].concat(),
+                controller: u.controller * v.controller,
+                environment: u.environment * v.environment,
+                next,
+            });
+        }
+    }
+    Draft {
+        channels: first.channels + second.channels,
+        states,
+    }
+}
+
+fn coded(below: &Draft, codes: &Codes) -> Draft {
+    let mut draft = below.clone();
+    let channel = usize::from(codes.channel);
+    if channel < draft.channels {
+        for state in &mut draft.states {
+            let reading = &mut state.readings[channel];
+            for &(from, to) in &codes.entries {
+                if *reading == from {
+                    *reading = to;
+                    break;
+                }
+            }
+            if *reading >= codes.cut {
+                *reading = 0;
+            }
+        }
+    }
+    draft
+}
+
+/// Writes the system into so much room.
+pub fn write(draft: &Draft, room: usize) -> Result<Vec<u8>, Refusal> {
+    if draft.states.len() > 256 {
+        return Err(18);
+    }
+    if draft.channels > 8 {
+        return Err(19);
+    }
+    let mut states = draft.states.iter();
+    if states.any(|state| state.controller > 16 || state.environment > 16) {
+        return Err(21);
+    }
+    let bytes = draft.file();
+    if bytes.len() > room {
+        return Err(23);
+    }
+    Ok(bytes)
+}
+
+/// The system that a layer of whole files means. It has to be small enough
+/// that no bound is reached.
+pub fn draft(layer: &Layer) -> Draft {
+    match layer {
+        Layer::File(bytes) => read(bytes, 0, usize::MAX).expect("the file is whole").0,
+        &Layer::Buffer(capacity) => buffer(capacity.into()),
+        Layer::Joint(first, second) => joint(&draft(first), &draft(second)),
+        Layer::Coded(below, codes) => coded(&draft(below), codes),
+    }
+}
+
+fn sea_class(height: i16) -> usize {
+    match height {
+        ..=0 => 0,
+        1..=10 => 1,
+        11..=50 => 2,
+        51..=125 => 3,
+        126..=250 => 4,
+        251..=400 => 5,
+        401..=600 => 6,
+        601..=900 => 7,
+        901..=1_400 => 8,
+        _ => 9,
+    }
+}
+
+fn alike(likeness: &Likeness, channel: usize, old: i16, new: i16) -> bool {
+    match likeness {
+        Likeness::Exact => old == new,
+        Likeness::Within(tolerances) => {
+            let apart = (i32::from(old) - i32::from(new)).abs();
+            apart <= tolerances.get(channel).map_or(0, |&most| i32::from(most))
+        }
+        &Likeness::SeaState(named) if usize::from(named) == channel => {
+            sea_class(old) == sea_class(new)
+        }
+        Likeness::SeaState(_) => old == new,
+    }
+}
+
+/// Pairs of an old and a new state.
+pub type Relation = BTreeSet<(usize, usize)>;
+
+/// An exchange of two whole systems.
+pub struct Game {
+    old: Draft,
+    new: Draft,
+    likeness: Likeness,
+}
+
+impl Game {
+    pub fn new(exchange: &Exchange) -> Self {
+        Game {
+            old: draft(&exchange.old),
+            new: draft(&exchange.new),
+            likeness: exchange.likeness.clone(),
+        }
+    }
+
+    /// The numbers of old and of new states.
+    pub fn states(&self) -> (usize, usize) {
+        (self.old.states.len(), self.new.states.len())
+    }
+
+    pub fn pairs(&self) -> usize {
+        self.old.states.len() * self.new.states.len()
+    }
+
+    fn all_pairs(&self) -> impl Iterator<Item = (usize, usize)> + use<> {
+        let (old, new) = (self.old.states.len(), self.new.states.len());
+        (0..old).flat_map(move |w| (0..new).map(move |v| (w, v)))
+    }
+
+    fn place(&self, (w, v): (usize, usize)) -> usize {
+        w * self.new.states.len() + v
+    }
+
+    /// The refusal of an opening, with a table that is long enough.
+    pub fn refused(&self) -> Option<Refusal> {
+        let sides = [&self.old, &self.new];
+        if sides.iter().any(|side| side.states.len() > 256) {
+            return Some(1);
+        }
+        if self.old.channels != self.new.channels || self.old.channels > 8 {
+            return Some(2);
+        }
+        let mut states = sides.iter().flat_map(|side| &side.states);
+        if states.any(|state| state.controller > 16 || state.environment > 16) {
+            return Some(3);
+        }
+        None
+    }
+
+    fn alike(&self, (w, v): (usize, usize)) -> bool {
+        let old = &self.old.states[w].readings;
+        let new = &self.new.states[v].readings;
+        (0..self.old.channels)
+            .all(|channel| alike(&self.likeness, channel, old[channel], new[channel]))
+    }
+
+    /// Has the new controller a reply to the move that keeps to the pairs for
+    /// which `kept` holds?
+    fn answered(
+        &self,
+        (w, v): (usize, usize),
+        own: usize,
+        kept: &dyn Fn((usize, usize)) -> bool,
+    ) -> bool {
+        let (old, new) = (&self.old.states[w], &self.new.states[v]);
+        (0..new.controller).any(|reply| {
+            (0..new.environment).all(|new_answer| {
+                (0..old.environment).any(|old_answer| {
+                    kept((
+                        old.next[own * old.environment + old_answer],
+                        new.next[reply * new.environment + new_answer],
+                    ))
+                })
+            })
+        })
+    }
+
+    /// The largest alternating simulation: all pairs that are alike, less
+    /// those that the new controller cannot keep up, until it keeps up all.
+    pub fn largest(&self) -> Relation {
+        let mut relation: Relation = self.all_pairs().filter(|&pair| self.alike(pair)).collect();
+        loop {
+            let kept_up: Relation = relation
+                .iter()
+                .copied()
+                .filter(|&(w, v)| {
+                    (0..self.old.states[w].controller)
+                        .all(|own| self.answered((w, v), own, &|pair| relation.contains(&pair)))
+                })
+                .collect();
+            if kept_up == relation {
+                return relation;
+            }
+            relation = kept_up;
+        }
+    }
+
+    /// The first move that refutes the pair while the entries for which
+    /// `struck` holds are those of struck pairs.
+    fn refuting(
+        &self,
+        table: &[u32],
+        pair: (usize, usize),
+        struck: &dyn Fn(u32) -> bool,
+    ) -> Option<usize> {
+        (0..self.old.states[pair.0].controller)
+            .find(|&own| !self.answered(pair, own, &|other| !struck(table[self.place(other)])))
+    }
+
+    /// Does the table solve the rank rule?
+    pub fn solves_rank_rule(&self, table: &[u32]) -> bool {
+        let highest = table[..self.pairs()].iter().copied().max().unwrap_or(0);
+        self.all_pairs().all(|pair| {
+            let wanted = if self.alike(pair) {
+                // Above the highest entry the struck pairs no longer change.
+                (2..=highest.saturating_add(1).max(2))
+                    .find(|&k| {
+                        let struck = |entry| (1..k).contains(&entry);
+                        self.refuting(table, pair, &struck).is_some()
+                    })
+                    .unwrap_or(0)
+            } else {
+                1
+            };
+            table[self.place(pair)] == wanted
+        })
+    }
+
+    fn loose(&self, table: &[u32], pair: (usize, usize)) -> Option<Cause> {
+        if !self.alike(pair) {
+            return Some(Cause::Sight);
+        }
+        self.refuting(table, pair, &|entry| entry > 0)
+            .map(|own| Cause::Move(own as u16))
+    }
+
+    pub fn check(&self, table: &[u32]) -> Result<Accepted, Failure> {
+        for pair in self.all_pairs() {
+            let entry = table[self.place(pair)];
+            if entry == 0 {
+                if self.loose(table, pair).is_some() {
+                    return Err(Failure::OutOfOrder(14, named(pair)));
+                }
+            } else {
+                let struck = |other: u32| other > 0 && other < entry;
+                if self.alike(pair) && self.refuting(table, pair, &struck).is_none() {
+                    return Err(Failure::OutOfOrder(13, named(pair)));
+                }
+            }
+        }
+        let pairs = &table[..self.pairs()];
+        Ok(Accepted {
+            standing: pairs.iter().filter(|&&entry| entry == 0).count() as u32,
+            replaces: pairs[0] == 0,
+        })
+    }
+
+    fn strike(&self, table: &[u32], proposal: &Proposal) -> Result<(), Refusal> {
+        let pair = (
+            usize::from(proposal.pair.old),
+            usize::from(proposal.pair.new),
+        );
+        let (old, new) = self.states();
+        if pair.0 >= old || pair.1 >= new {
+            return Err(7);
+        }
+        if table[self.place(pair)] != 0 {
+            return Err(8);
+        }
+        match proposal.cause {
+            Cause::Sight if self.alike(pair) => Err(10),
+            Cause::Sight => Ok(()),
+            Cause::Move(own) if usize::from(own) >= self.old.states[pair.0].controller => Err(9),
+            Cause::Move(own) => {
+                let kept = |other| table[self.place(other)] == 0;
+                if self.answered(pair, own.into(), &kept) {
+                    Err(11)
+                } else {
+                    Ok(())
+                }
+            }
+        }
+    }
+
+    /// Makes a call, from where the calls before it left the docket's count,
+    /// which a closed docket has not, and the table.
+    pub fn call(&self, count: &mut Option<u32>, table: &mut [u32], call: &Call) -> Answer {
+        if *call == Call::Open {
+            if let Some(refusal) = self.refused() {
+                return Answer::Refused(refusal);
+            }
+            if table.len() < self.pairs() {
+                return Answer::Refused(4);
+            }
+            table[..self.pairs()].fill(0);
+            *count = Some(0);
+            return Answer::Opened(self.pairs() as u32);
+        }
+        let Some(count) = count else {
+            return Answer::Refused(5);
+        };
+        match call {
+            Call::Open => unreachable!("an opening was answered above"),
+            Call::Strike(proposal) => match self.strike(table, proposal) {
+                Ok(()) => {
+                    let pair = (proposal.pair.old.into(), proposal.pair.new.into());
+                    *count += 1;
+                    table[self.place(pair)] = *count;
+                    Answer::Struck(*count)
+                }
+                Err(refusal) => Answer::Refused(refusal),
+            },
+            &Call::Sweep(budget) => {
+                let mut made = 0;
+                for pair in self.all_pairs() {
+                    let place = self.place(pair);
+                    if made < budget && table[place] == 0 && self.loose(table, pair).is_some() {
+                        *count += 1;
+                        table[place] = *count;
+                        made += 1;
+                    }
+                }
+                Answer::Swept(made)
+            }
+            Call::Settle => {
+                let mut standing = 0;
+                for pair in self.all_pairs() {
+                    if table[self.place(pair)] == 0 {
+                        if let Some(cause) = self.loose(table, pair) {
+                            return Answer::Loose(named(pair), cause);
+                        }
+                        standing += 1;
+                    }
+                }
+                Answer::Settled(standing)
+            }
+        }
+    }
+
+    /// The decision, and the table that it leaves. The exchange has to be one
+    /// that is not refused.
+    pub fn decide(&self, proposals: &[Proposal]) -> (Decision, Vec<u32>) {
+        let mut count = None;
+        let mut table = vec![0; self.pairs()];
+        self.call(&mut count, &mut table, &Call::Open);
+        let mut answers = Vec::new();
+        for &proposal in proposals {
+            let answer = self.call(&mut count, &mut table, &Call::Strike(proposal));
+            answers.push(match answer {
+                Answer::Struck(entry) => Ok(entry),
+                Answer::Refused(refusal) => Err(refusal),
+                other => unreachable!("a strike is not answered {other:?}"),
+            });
+        }
+        let mut swept = 0;
+        while let Answer::Swept(made) = self.call(&mut count, &mut table, &Call::Sweep(65_535)) {
+            if made == 0 {
+                break;
+            }
+            swept += u32::from(made);
+        }
+        let decision = Decision {
+            answers,
+            swept,
+            standing: table.iter().filter(|&&entry| entry == 0).count() as u32,
+            replaces: table[0] == 0,
+        };
+        (decision, table)
+    }
+}
+
+fn named((old, new): (usize, usize)) -> Pair {
+    Pair {
+        old: old as u16,
+        new: new as u16,
+    }
+}
