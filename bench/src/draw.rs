@@ -213,12 +213,15 @@ impl Draft {
     }
 }
 
-/// Encodes a number below 2,097,152 in at least so many bytes.
+/// How many values the seven bits of a byte have.
+const GROUP: u32 = 128;
+
+/// Encodes a number in at least so many bytes.
 fn encode(mut number: u32, least: usize, bytes: &mut Vec<u8>) {
     let mut written = 1;
-    while number > 127 || written < least {
-        bytes.push(128 + (number % 128) as u8);
-        number /= 128;
+    while number >= GROUP || written < least {
+        bytes.push((GROUP + number % GROUP) as u8);
+        number /= GROUP;
         written += 1;
     }
     bytes.push(number as u8);

@@ -1,4 +1,5 @@
-//! The answers by their definitions, without regard to speed.
+//! The answers by their definitions, without regard to speed. Refusals are
+//! given by their numbers in `REFUSALS`.
 
 use std::collections::BTreeSet;
 
@@ -8,23 +9,32 @@ use crate::implementation::{
     Proposal, ReadFault, Refusal,
 };
 
+const MOST_STATES: usize = 256;
+const MOST_CHANNELS: usize = 8;
+const MOST_MOVES: usize = 16;
+const NEXT_WORDS: usize = MOST_MOVES * MOST_MOVES;
+
+/// How many values the seven bits of a byte have; a byte of this or above is
+/// not the last of its number.
+const GROUP: usize = 128;
+
 /// Takes a number off the bytes at a place; tells the place behind it.
 fn number_at(bytes: &[u8], place: usize) -> Result<(usize, usize), Refusal> {
     let byte = |index: usize| bytes.get(place + index).copied().map(usize::from);
     let first = byte(0).ok_or(15)?;
-    if first < 128 {
+    if first < GROUP {
         return Ok((first, place + 1));
     }
     let second = byte(1).ok_or(15)?;
-    if second < 128 {
-        return Ok((first - 128 + 128 * second, place + 2));
+    if second < GROUP {
+        return Ok((first - GROUP + GROUP * second, place + 2));
     }
     let third = byte(2).ok_or(15)?;
-    if third >= 128 {
+    if third >= GROUP {
         return Err(16);
     }
-    let number = first - 128 + 128 * (second - 128) + 128 * 128 * third;
-    if number > 65_535 {
+    let number = first - GROUP + GROUP * (second - GROUP) + GROUP * GROUP * third;
+    if number > u16::MAX.into() {
         return Err(17);
     }
     Ok((number, place + 3))
@@ -48,11 +58,11 @@ pub fn read(bytes: &[u8], place: usize, room: usize) -> Result<(Draft, usize), R
         Ok(number)
     };
     let outside = |number: usize, most: usize| number < 1 || number > most;
-    let count = take(0, &|number| outside(number, 256).then_some(18))?;
+    let count = take(0, &|number| outside(number, MOST_STATES).then_some(18))?;
     let channels = take(0, &|number| {
-        if outside(number, 8) {
+        if outside(number, MOST_CHANNELS) {
             Some(19)
-        } else if room < 2 + count * (number + 258) {
+        } else if room < 2 + count * (number + 2 + NEXT_WORDS) {
             Some(20)
         } else {
             None
@@ -70,8 +80,8 @@ pub fn read(bytes: &[u8], place: usize, room: usize) -> Result<(Draft, usize), R
             };
             readings.push(reading as i16);
         }
-        let controller = take(state, &|number| outside(number, 16).then_some(21))?;
-        let environment = take(state, &|number| outside(number, 16).then_some(21))?;
+        let controller = take(state, &|number| outside(number, MOST_MOVES).then_some(21))?;
+        let environment = take(state, &|number| outside(number, MOST_MOVES).then_some(21))?;
         let mut next = Vec::new();
         for _ in 0..controller * environment {
             next.push(take(state, &|number| (number >= count).then_some(22))?);
@@ -94,10 +104,10 @@ pub fn words(draft: &Draft) -> Vec<u16> {
             words.push((i32::from(reading) + 32_768) as u16);
         }
         words.extend([state.controller as u16, state.environment as u16]);
-        let mut next = [0; 256];
+        let mut next = [0; NEXT_WORDS];
         for controller in 0..state.controller {
             for environment in 0..state.environment {
-                next[controller * 16 + environment] =
+                next[controller * MOST_MOVES + environment] =
                     state.next[controller * state.environment + environment] as u16;
             }
         }
@@ -172,16 +182,20 @@ fn coded(below: &Draft, codes: &Codes) -> Draft {
     draft
 }
 
+fn has_too_many_moves(state: &DraftState) -> bool {
+    state.controller > MOST_MOVES || state.environment > MOST_MOVES
+}
+
 /// Writes the system into so much room.
 pub fn write(draft: &Draft, room: usize) -> Result<Vec<u8>, Refusal> {
-    if draft.states.len() > 256 {
+    if draft.states.len() > MOST_STATES {
         return Err(18);
     }
-    if draft.channels > 8 {
+    if draft.channels > MOST_CHANNELS {
         return Err(19);
     }
     let mut states = draft.states.iter();
-    if states.any(|state| state.controller > 16 || state.environment > 16) {
+    if states.any(has_too_many_moves) {
         return Err(21);
     }
     let bytes = draft.file();
@@ -271,14 +285,14 @@ impl Game {
     /// The refusal of an opening, with a table that is long enough.
     pub fn refused(&self) -> Option<Refusal> {
         let sides = [&self.old, &self.new];
-        if sides.iter().any(|side| side.states.len() > 256) {
+        if sides.iter().any(|side| side.states.len() > MOST_STATES) {
             return Some(1);
         }
-        if self.old.channels != self.new.channels || self.old.channels > 8 {
+        if self.old.channels != self.new.channels || self.old.channels > MOST_CHANNELS {
             return Some(2);
         }
         let mut states = sides.iter().flat_map(|side| &side.states);
-        if states.any(|state| state.controller > 16 || state.environment > 16) {
+        if states.any(has_too_many_moves) {
             return Some(3);
         }
         None
@@ -490,7 +504,7 @@ impl Game {
             });
         }
         let mut swept = 0;
-        while let Answer::Swept(made) = self.call(&mut count, &mut table, &Call::Sweep(65_535)) {
+        while let Answer::Swept(made) = self.call(&mut count, &mut table, &Call::Sweep(u16::MAX)) {
             if made == 0 {
                 break;
             }
