@@ -1,6 +1,7 @@
 -- What an input holds: a tolerance, the file of the old system, that of the new one, and a list of strikes to its end.
 use Rattle.std.specs.Prelude.{◌≡◌, ℕ, zero, suc, cond, List, [], ◌∷◌, ◌++◌, length, replicate, Some, None, Ok, Err, Option, Result, nat_lt, option_map}
-use Rattle.std.specs.Result.{result_err, result_unwrap_or}
+use Rattle.std.specs.List.{filter_map}
+use Rattle.std.specs.Result.{result_err}
 use Rattle.systems.specs.Bounded.{or_else}
 use Rattle.systems.specs.Layout.{LaidOut, stored}
 use Rattle.systems.specs.Meaning.{Meaning}
@@ -65,30 +66,41 @@ abbrev pub kept : List Strike → Option Strike → List Strike
 kept strikes None = strikes
 kept strikes (Some strike) = strikes ++ (strike ∷ [])
 
--- a strike in front of others, if there is one
-abbrev pub in_front : Option Strike → Result (List Strike) ListFault → Result (List Strike) ListFault
-in_front strike (Err fault) = Err fault
-in_front None (Ok strikes) = Ok strikes
-in_front (Some strike) (Ok strikes) = Ok (strike ∷ strikes)
+-- What a list holds: its records up to the first fault, and that fault.
+pub record Listed : Type 0 where
+  pub records : List Record
+  pub fault : Option ListFault
 
--- the strikes of an answer of record_at and of the records behind it; none where the list has ended
-abbrev pub and_behind : (ℕ → Result (List Strike) ListFault) → Result (Option (Record × ℕ)) ListFault → Result (List Strike) ListFault
-and_behind behind (Ok None) = Ok []
-and_behind behind (Ok (Some read)) = in_front (strike_of read.0) (behind read.1)
-and_behind behind (Err fault) = Err fault
+-- a list that ends here, with a fault or without
+abbrev pub ends_with : Option ListFault → Listed
+ends_with fault = record { records = []; fault = fault }
 
--- the strikes of the records from a place on, at most so many records, or the first fault among them
-abbrev pub strikes_from : ℕ → List ℕ → ℕ → Result (List Strike) ListFault
-strikes_from zero input place = Ok []
-strikes_from (suc most) input place = and_behind (strikes_from most input) (record_at input place)
+-- a record in front of what the list behind it holds
+abbrev pub in_front : Record → Listed → Listed
+in_front item behind = record { records = item ∷ behind.records; fault = behind.fault }
 
--- the strikes of the list that begins at a place; no record is without a byte, so that there are no more records than bytes
-unfoldable pub listed : List ℕ → ℕ → Result (List Strike) ListFault
-listed input place = strikes_from (length input) input place
+-- what an answer of record_at and the list behind it hold
+abbrev pub and_behind : (ℕ → Listed) → Result (Option (Record × ℕ)) ListFault → Listed
+and_behind behind (Ok None) = ends_with None
+and_behind behind (Ok (Some read)) = in_front read.0 (behind read.1)
+and_behind behind (Err fault) = ends_with (Some fault)
+
+-- what a list holds from a place on, at most so many records
+abbrev pub listed_from : ℕ → List ℕ → ℕ → Listed
+listed_from zero input place = ends_with None
+listed_from (suc most) input place = and_behind (listed_from most input) (record_at input place)
+
+-- what the list that begins at a place holds; no record is without a byte, so that there are no more records than bytes
+unfoldable pub listed : List ℕ → ℕ → Listed
+listed input place = listed_from (length input) input place
+
+-- the strikes that the list at a place proposes
+abbrev pub proposed : List ℕ → ℕ → List Strike
+proposed input place = filter_map strike_of (listed input place).records
 
 -- the strikes that are proposed
 abbrev pub strikes : List ℕ → List Strike
-strikes input = result_unwrap_or (listed input (list_place input)) []
+strikes input = proposed input (list_place input)
 
 -- the fault of an input that is too long
 abbrev pub length_fault : List ℕ → Option InputFault
@@ -106,7 +118,7 @@ system_fault input place = option_map of_system (file_fault input place system_r
 
 -- the first fault of the list at a place
 abbrev pub list_fault : List ℕ → ℕ → Option InputFault
-list_fault input place = option_map of_list (result_err (listed input place))
+list_fault input place = option_map of_list (listed input place).fault
 
 -- the first fault of an input
 abbrev pub input_fault : List ℕ → Option InputFault
@@ -120,7 +132,7 @@ input_fault input =
 -- What was read of an input.
 pub record IsRead (input : List ℕ) (read : Input) : Type 0 where
   pub tolerances : read.likeness.tolerances ≡ replicate 8 (tolerance input)
-  pub old : Holds (old_system input) read.old.items
-  pub new : Holds (new_system input) read.new.items
+  pub old : Holds (old_system input) read.old_words.items
+  pub new : Holds (new_system input) read.new_words.items
   pub strikes : read.strikes.items ≡ strikes input
   pub list_place : read.list_place ≡ list_place input

@@ -32,8 +32,8 @@ fn decide(heap: Global, input: &Input, table: &mut [u32]) -> Result<Decision, Re
     ensures { (bytes : List ℕ) → IsRead bytes input.now → Unless (opening_fault bytes) (Tells bytes input.now.strikes.items) result }
 {
     let exchange = Exchange {
-        old: &Stored::new(&input.old),
-        new: &Stored::new(&input.new),
+        old: &Stored::new(&input.old_words),
+        new: &Stored::new(&input.new_words),
         likeness: &input.likeness,
     };
     match Docket::new().decide(heap, &exchange, table, &input.strikes) {

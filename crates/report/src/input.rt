@@ -22,15 +22,17 @@ const SYSTEM_ROOM: usize = 17_026;
 
 /// What was read of an input.
 #[derive(Drop)]
-pub(crate) struct Input {
-    pub(crate) likeness: Within,
-    /// The words of the old system.
-    pub(crate) old: Vec<u16>,
-    /// The words of the new system.
-    pub(crate) new: Vec<u16>,
-    pub(crate) strikes: Vec<Strike>,
+pub struct Input {
+    /// The tolerance, the same for all channels.
+    pub likeness: Within,
+    /// The words of the old system, which have its layout.
+    pub old_words: Vec<u16>,
+    /// The words of the new system, which have its layout.
+    pub new_words: Vec<u16>,
+    /// The strikes that the list proposes, in its order.
+    pub strikes: Vec<Strike>,
     /// Where the list begins.
-    pub(crate) list_place: usize,
+    pub list_place: usize,
 }
 
 /// The number in front, and the place behind it.
@@ -88,8 +90,8 @@ fn read_words(heap: Global, input: &[u8], place: usize) -> Result<(Vec<u16>, usi
     Ok((words, behind))
 }
 
-/// Reads a whole input, item by item.
-pub(crate) fn read_input(heap: Global, input: &[u8]) -> Result<Input, ReportError>
+/// Reads a whole input, item by item, or finds the first of its faults.
+pub fn read_input(heap: Global, input: &[u8]) -> Result<Input, ReportError>
     ensures { Unless (input_fault input.now) (IsRead input.now) result }
 {
     if input.len() > MOST_BYTES {
@@ -99,13 +101,13 @@ pub(crate) fn read_input(heap: Global, input: &[u8]) -> Result<Input, ReportErro
         }));
     }
     let (likeness, old_place) = read_tolerance(input)?;
-    let (old, new_place) = read_words(heap, input, old_place)?;
-    let (new, list_place) = read_words(heap, input, new_place)?;
+    let (old_words, new_place) = read_words(heap, input, old_place)?;
+    let (new_words, list_place) = read_words(heap, input, new_place)?;
     let strikes = read_strikes(heap, input, list_place)?;
     Ok(Input {
         likeness,
-        old,
-        new,
+        old_words,
+        new_words,
         strikes,
         list_place,
     })

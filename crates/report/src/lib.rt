@@ -11,5 +11,5 @@ mod list;
 pub use deciding::report;
 pub use error::ReportError;
 pub use fault::{InputFault, InputReason};
-pub use input::MOST_BYTES;
+pub use input::{Input, MOST_BYTES, read_input};
 pub use lines::{Proposal, Verdict};

@@ -1,7 +1,7 @@
 //! The strikes that a list proposes.
-ghost use Rattle.std.specs.Prelude.{◌≡◌, Ok, OnOk};
+ghost use Rattle.std.specs.Prelude.{◌≡◌, OnOk};
 ghost use Rattle.report.specs.Answer.{Unless};
-ghost use Rattle.report.specs.Input.{kept, list_fault, listed, strike_of};
+ghost use Rattle.report.specs.Input.{kept, list_fault, proposed, strike_of};
 
 use crate::error::ReportError;
 use arena::Cause;
@@ -42,7 +42,7 @@ pub(crate) fn read_strikes(
     input: &[u8],
     place: usize,
 ) -> Result<Vec<Strike>, ReportError>
-    ensures { Unless (list_fault input.now place) (λ strikes. listed input.now place ≡ Ok strikes.items) result }
+    ensures { Unless (list_fault input.now place) (λ strikes. strikes.items ≡ proposed input.now place) result }
 {
     let mut strikes = Vec::new(heap);
     let mut next = place;

@@ -7,8 +7,8 @@ use Rattle.report.proofs.deciding.decide.Goals as goal
 pub returns-in-Ok : goal.returns-in-Ok
 returns-in-Ok c bytes read =
     let input = c.args.input.now in
-    let old = stored_is _ input.old.items _ _ read.old c.deref.ensures.value c.new.ensures in
-    let new = stored_is _ input.new.items _ _ read.new c.deref-2.ensures.value c.new-2.ensures in
+    let old = stored_is _ input.old_words.items _ _ read.old c.deref.ensures.value c.new.ensures in
+    let new = stored_is _ input.new_words.items _ _ read.new c.deref-2.ensures.value c.new-2.ensures in
     let A = exchange_is bytes _ _ _ old new read.tolerances in
     let proposed = c.deref-3.ensures.value ∙ read.strikes in
     let after = position c.decide.new.self c.decide.new.table in
@@ -17,8 +17,8 @@ returns-in-Ok c bytes read =
 pub returns-in-Err-Refused : goal.returns-in-Err-Refused
 returns-in-Err-Refused c bytes read =
     let input = c.args.input.now in
-    let old = stored_is _ input.old.items _ _ read.old c.deref.ensures.value c.new.ensures in
-    let new = stored_is _ input.new.items _ _ read.new c.deref-2.ensures.value c.new-2.ensures in
+    let old = stored_is _ input.old_words.items _ _ read.old c.deref.ensures.value c.new.ensures in
+    let new = stored_is _ input.new_words.items _ _ read.new c.deref-2.ensures.value c.new-2.ensures in
     let A = exchange_is bytes _ _ _ old new read.tolerances in
     let proposed = c.deref-3.ensures.value ∙ read.strikes in
     let after = position c.decide.new.self c.decide.new.table in
