@@ -37,11 +37,11 @@ entries_of_begun : length begun.table ≡ table_room
 unfolding begun
 entries_of_begun = search rules
 
--- a granted decision tells the output
-pub tells : (input : List ℕ) (d : Decision) (y : Position) → Told (exchange_of input) begun (strikes input) d y → (opening_fault input ≡ None) × Tells input (strikes input) d
+-- a granted decision tells what the input's does
+pub tells : (input : List ℕ) (d : Decision) (y : Position) → Told (exchange_of input) begun (strikes input) d y → (opening_fault input ≡ None) × Tells input d
 tells input d y told = (
   ap (option_map (λ refusal. fault_at (Opening refusal) (list_place input))) (ap (opening_refusal (exchange_of input)) (sym entries_of_begun) ∙ told.granted),
-  record { lines = rw (told.answered, told.swept, told.counted, told.verdict, told.ended) refl; decides = told.decides },
+  rw told.ended at told,
 )
 
 -- a refused opening is the output's fault

@@ -4,7 +4,6 @@ use Rattle.std.specs.List.{flat_map, zip}
 use Rattle.docket.specs.Refusals.{refusal_number}
 use Rattle.docket.specs.declared.call.Grant.{Grant}
 use Rattle.docket.specs.declared.call.Grant.TheVariants.{Opened, Struck, Swept, Checked}
-use Rattle.docket.specs.declared.decision.Decision.{Decision}
 use Rattle.docket.specs.declared.refusal.Refusal.{Refusal}
 use Rattle.docket.specs.declared.strike.Strike.{Strike}
 use Rattle.report.specs.declared.lines.Proposal.{Proposal}
@@ -47,10 +46,6 @@ decision_text strikes answers swept standing replaces =
     ++ (count_line (codes "standing ") standing
     ++ verdict_line replaces))
 
--- those lines, of what was decided
-abbrev pub decision_lines : List Strike → Decision → List ℕ
-decision_lines strikes d = decision_text strikes d.answers.items d.swept d.standing d.replaces
-
 -- the lines of a verdict
 abbrev pub verdict_text : Verdict → List ℕ
-verdict_text v = decision_lines v.strikes.items v.decision
+verdict_text v = decision_text v.strikes.items v.decision.answers.items v.decision.swept v.decision.standing v.decision.replaces

@@ -1,21 +1,19 @@
 -- The output for every input.
-use Rattle.std.specs.Prelude.{◌≡◌, ℕ, List, replicate, Some, None, Ok, Err, Decides, Option, Result, option_map}
+use Rattle.std.specs.Prelude.{◌≡◌, ℕ, List, replicate, Some, None, Ok, Err, Option, Result, option_map}
 use Rattle.systems.specs.Bounded.{or_else}
 use Rattle.likeness.specs.Within.{within}
 use Rattle.arena.specs.Arena.{Arena}
 use Rattle.arena.specs.Exchange.{exchange}
-use Rattle.arena.specs.Pairs.{Replaces}
 use Rattle.arena.specs.Table.{number_standing, start_stands}
-use Rattle.docket.specs.Decide.{decision, proposals}
+use Rattle.docket.specs.Decide.{Told, decision, proposals}
 use Rattle.docket.specs.Position.{Position, closed, opened, position}
 use Rattle.docket.specs.Refusals.{opening_refusal}
 use Rattle.docket.specs.Run.{answers}
 use Rattle.docket.specs.Sweep.{Swept}
 use Rattle.docket.specs.declared.decision.Decision.{Decision}
-use Rattle.docket.specs.declared.strike.Strike.{Strike}
 use Rattle.report.specs.Fault.{fault_at, fault_line}
 use Rattle.report.specs.Input.{input_fault, list_place, new_system, old_system, strikes, tolerance}
-use Rattle.report.specs.Lines.{decision_lines, decision_text, verdict_text}
+use Rattle.report.specs.Lines.{decision_text, verdict_text}
 use Rattle.report.specs.declared.error.ReportError.{ReportError}
 use Rattle.report.specs.declared.error.ReportError.TheVariants.{NoMemory, Refused}
 use Rattle.report.specs.declared.fault.InputFault.{InputFault}
@@ -62,10 +60,13 @@ text_unless None text = text
 abbrev pub output : List ℕ → List ℕ
 output input = text_unless (fault_of input) (decided_text input)
 
--- What a decision tells: the lines of the output, and whether the new system replaces the old.
-pub record Tells (input : List ℕ) (strikes : List Strike) (d : Decision) : Type 0 where
-  pub lines : decision_lines strikes d ≡ decided_text input
-  pub decides : Decides d.replaces (Replaces (exchange_of input))
+-- what a decision of the input tells: all that one tells of the exchange that begins with a closed docket and a table in which nothing is struck
+abbrev pub Tells : List ℕ → Decision → Type 0
+Tells input d = Told (exchange_of input) begun (strikes input) d (decided input).position
+
+-- a verdict has the strikes that the input proposes, and what their decision tells
+abbrev pub IsVerdict : List ℕ → Verdict → Type 0
+IsVerdict input verdict = (verdict.strikes.items ≡ strikes input) × Tells input verdict.decision
 
 -- the text of an answer is the output, unless memory is wanting
 abbrev pub IsPrinted : List ℕ → Result Verdict ReportError → Type 0

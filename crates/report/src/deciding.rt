@@ -1,9 +1,8 @@
 //! From the bytes of an input to what is printed for it.
-ghost use Rattle.std.specs.Prelude.{◌≡◌, List, ℕ, Decides, IfOk};
-ghost use Rattle.arena.specs.Pairs.{Replaces};
+ghost use Rattle.std.specs.Prelude.{◌≡◌, List, ℕ, IfOk};
 ghost use Rattle.report.specs.Answer.{Unless};
 ghost use Rattle.report.specs.Input.{IsRead};
-ghost use Rattle.report.specs.Output.{IsPrinted, Tells, begun, exchange_of, fault_of, opening_fault};
+ghost use Rattle.report.specs.Output.{IsPrinted, IsVerdict, Tells, begun, fault_of, opening_fault};
 
 use crate::error::ReportError;
 use crate::fault::{InputFault, InputReason};
@@ -29,7 +28,7 @@ fn new_table(heap: Global) -> Result<Vec<u32>, AllocError>
 /// Decides what was read of an input, with a table in which nothing is struck.
 fn decide(heap: Global, input: &Input, table: &mut [u32]) -> Result<Decision, ReportError>
     requires { table.old ≡ begun.table }
-    ensures { (bytes : List ℕ) → IsRead bytes input.now → Unless (opening_fault bytes) (Tells bytes input.now.strikes.items) result }
+    ensures { (bytes : List ℕ) → IsRead bytes input.now → Unless (opening_fault bytes) (Tells bytes) result }
 {
     let exchange = Exchange {
         old: &Stored::new(&input.old_words),
@@ -51,7 +50,7 @@ fn decide(heap: Global, input: &Input, table: &mut [u32]) -> Result<Decision, Re
 /// What is printed of the answer, by its `Display` or that of the error, is the whole output. Nothing is decided where any part of the input is refused.
 pub fn report(heap: Global, input: &[u8]) -> Result<Verdict, ReportError>
     ensures output { IsPrinted input.now result }
-    ensures verdict { Unless (fault_of input.now) (λ verdict. Decides verdict.decision.replaces (Replaces (exchange_of input.now))) result }
+    ensures verdict { Unless (fault_of input.now) (IsVerdict input.now) result }
 {
     let read = read_input(heap, input)?;
     let mut table = new_table(heap)?;

@@ -12,7 +12,7 @@ returns-in-Ok c bytes read =
     let A = exchange_is bytes _ _ _ old new read.tolerances in
     let proposed = c.deref-3.ensures.value ∙ read.strikes in
     let after = position c.decide.new.self c.decide.new.table in
-    rw read.strikes (tells bytes c.in-Ok.decision after (decided_of bytes _ _ _ _ _ (Ok c.in-Ok.decision) after A c.new-3.ensures c.requires proposed c.in-Ok.is c.decide.ensures))
+    (tells bytes c.in-Ok.decision after (decided_of bytes _ _ _ _ _ (Ok c.in-Ok.decision) after A c.new-3.ensures c.requires proposed c.in-Ok.is c.decide.ensures))
 
 pub returns-in-Err-Refused : goal.returns-in-Err-Refused
 returns-in-Err-Refused c bytes read =
