@@ -14,3 +14,9 @@ abbrev pub Unless : {X : Type 0} → Option InputFault → (X → Type 0) → Re
 Unless fault Is (Ok found) = (fault ≡ None) × Is found
 Unless fault Is (Err (Refused why)) = fault ≡ Some why
 Unless fault Is (Err NoMemory) = Unit {0}
+
+-- memory may be wanting only where there is no such fault
+abbrev pub WantsMemory : {X : Type 0} → Option InputFault → Result X ReportError → Type 0
+WantsMemory fault (Ok found) = Unit {0}
+WantsMemory fault (Err (Refused why)) = Unit {0}
+WantsMemory fault (Err NoMemory) = fault ≡ None

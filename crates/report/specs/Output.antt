@@ -10,6 +10,8 @@ use Rattle.docket.specs.Position.{Position, closed, opened, position}
 use Rattle.docket.specs.Refusals.{opening_refusal}
 use Rattle.docket.specs.Run.{answers}
 use Rattle.docket.specs.Sweep.{Swept}
+use Rattle.docket.specs.declared.decision.DecideError.{DecideError}
+use Rattle.docket.specs.declared.decision.DecideError.TheVariants.{Refused as OpeningRefused, NoMemory as NoRoom}
 use Rattle.docket.specs.declared.decision.Decision.{Decision}
 use Rattle.report.specs.Fault.{fault_at, fault_line}
 use Rattle.report.specs.Input.{input_fault, list_place, new_system, old_system, strikes, tolerance}
@@ -35,6 +37,11 @@ begun = position closed (replicate table_room 0)
 -- the fault of the opening, which is refused at the place of the list
 abbrev pub opening_fault : List ℕ → Option InputFault
 opening_fault input = option_map (λ refusal. fault_at (Opening refusal) (list_place input)) (opening_refusal (exchange_of input) table_room)
+
+-- why there is no verdict where nothing was decided: an opening that is refused is so at the place of the list
+abbrev pub undecided : DecideError → ℕ → ReportError
+undecided (OpeningRefused refusal) place = Refused (fault_at (Opening refusal) place)
+undecided NoRoom place = NoMemory
 
 -- the first fault of an input, that of the opening included
 abbrev pub fault_of : List ℕ → Option InputFault

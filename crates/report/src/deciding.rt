@@ -1,8 +1,8 @@
 //! From the bytes of an input to what is printed for it.
 ghost use Rattle.std.specs.Prelude.{◌≡◌, List, ℕ, IfOk};
-ghost use Rattle.report.specs.Answer.{Unless};
-ghost use Rattle.report.specs.Input.{IsRead};
-ghost use Rattle.report.specs.Output.{IsPrinted, IsVerdict, Tells, begun, fault_of, opening_fault};
+ghost use Rattle.report.specs.Answer.{Unless, WantsMemory};
+ghost use Rattle.report.specs.Input.{IsRead, early_fault};
+ghost use Rattle.report.specs.Output.{IsPrinted, IsVerdict, Tells, begun, fault_of, opening_fault, undecided};
 
 use crate::error::ReportError;
 use crate::fault::{InputFault, InputReason};
@@ -25,6 +25,19 @@ fn new_table(heap: Global) -> Result<Vec<u32>, AllocError>
     vec![in heap; 0u32; TABLE_ROOM]
 }
 
+/// Why there is no verdict where nothing was decided of a list that begins at the place.
+fn undecided(why: DecideError, list_place: usize) -> ReportError
+    ensures { result ≡ undecided why list_place }
+{
+    match why {
+        DecideError::Refused(refusal) => ReportError::Refused(InputFault {
+            reason: InputReason::Opening(refusal),
+            place: list_place,
+        }),
+        DecideError::NoMemory => ReportError::NoMemory,
+    }
+}
+
 /// Decides what was read of an input, with a table in which nothing is struck.
 fn decide(heap: Global, input: &Input, table: &mut [u32]) -> Result<Decision, ReportError>
     requires { table.old ≡ begun.table }
@@ -35,14 +48,9 @@ fn decide(heap: Global, input: &Input, table: &mut [u32]) -> Result<Decision, Re
         new: &Stored::new(&input.new_words),
         likeness: &input.likeness,
     };
-    match Docket::new().decide(heap, &exchange, table, &input.strikes) {
-        Ok(decision) => Ok(decision),
-        Err(DecideError::Refused(refusal)) => Err(ReportError::Refused(InputFault {
-            reason: InputReason::Opening(refusal),
-            place: input.list_place,
-        })),
-        Err(DecideError::NoMemory) => Err(ReportError::NoMemory),
-    }
+    Docket::new()
+        .decide(heap, &exchange, table, &input.strikes)
+        .map_err(|why| undecided(why, input.list_place))
 }
 
 /// Decides a whole input: reads a tolerance for all channels, the file of the old system, that of the new one and a list of strikes, and makes one decision with the strikes as proposals.
@@ -51,6 +59,7 @@ fn decide(heap: Global, input: &Input, table: &mut [u32]) -> Result<Decision, Re
 pub fn report(heap: Global, input: &[u8]) -> Result<Verdict, ReportError>
     ensures output { IsPrinted input.now result }
     ensures verdict { Unless (fault_of input.now) (IsVerdict input.now) result }
+    ensures memory { WantsMemory (early_fault input.now) result }
 {
     let read = read_input(heap, input)?;
     let mut table = new_table(heap)?;

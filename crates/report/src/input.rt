@@ -1,9 +1,10 @@
 //! Reading an input: a tolerance, two system files, and a list of strikes to its end.
 ghost use Rattle.std.specs.Prelude.{◌≡◌, length, IfOk, replicate, vec_len};
+ghost use Rattle.std.specs.Result.{result_err};
 ghost use Rattle.files.specs.Sequence.{number_at};
 ghost use Rattle.files.specs.SystemFile.{described, file_read};
-ghost use Rattle.report.specs.Answer.{Unless, UnlessFault};
-ghost use Rattle.report.specs.Input.{Holds, IsRead, input_fault, most_bytes, old_place, system_fault, system_room, tolerance, tolerance_fault};
+ghost use Rattle.report.specs.Answer.{Unless, UnlessFault, WantsMemory};
+ghost use Rattle.report.specs.Input.{Holds, IsRead, early_fault, input_fault, length_fault, old_place, system_fault, system_room, tolerance, tolerance_fault};
 
 use crate::error::ReportError;
 use crate::fault::{InputFault, InputReason};
@@ -33,6 +34,19 @@ pub struct Input {
     pub strikes: Vec<Strike>,
     /// Where the list begins.
     pub list_place: usize,
+}
+
+/// Checks that the input is not too long.
+fn check_length(input: &[u8]) -> Result<(), InputFault>
+    ensures { result_err result ≡ length_fault input.now }
+{
+    if input.len() > MOST_BYTES {
+        return Err(InputFault {
+            reason: InputReason::TooLong,
+            place: MOST_BYTES,
+        });
+    }
+    Ok(())
 }
 
 /// The number in front, and the place behind it.
@@ -92,14 +106,10 @@ fn read_words(heap: Global, input: &[u8], place: usize) -> Result<(Vec<u16>, usi
 
 /// Reads a whole input, item by item, or finds the first of its faults.
 pub fn read_input(heap: Global, input: &[u8]) -> Result<Input, ReportError>
-    ensures { Unless (input_fault input.now) (IsRead input.now) result }
+    ensures read { Unless (input_fault input.now) (IsRead input.now) result }
+    ensures memory { WantsMemory (early_fault input.now) result }
 {
-    if input.len() > MOST_BYTES {
-        return Err(ReportError::Refused(InputFault {
-            reason: InputReason::TooLong,
-            place: MOST_BYTES,
-        }));
-    }
+    check_length(input)?;
     let (likeness, old_place) = read_tolerance(input)?;
     let (old_words, new_place) = read_words(heap, input, old_place)?;
     let (new_words, list_place) = read_words(heap, input, new_place)?;
