@@ -1,4 +1,4 @@
--- What the decision of an input tells of the output.
+-- What the decision of an input tells.
 use Rattle.std.proofs.Common.{rules, ◌≡◌, ℕ, List, length, replicate, Some, None, Err, Result, refl, sym, ap, ◌∙◌}
 use Rattle.std.specs.Prelude.{Ok, IsErrAnd, MatchResult, option_map}
 use Rattle.systems.specs.Meaning.{Meaning}

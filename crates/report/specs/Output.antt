@@ -22,7 +22,7 @@ use Rattle.report.specs.declared.fault.InputFault.{InputFault}
 use Rattle.report.specs.declared.fault.InputReason.TheVariants.{Opening}
 use Rattle.report.specs.declared.lines.Verdict.{Verdict}
 
--- how many entries the table has
+-- how many entries the table has: one for each pair of 64 old and 64 new states
 abbrev pub table_room : ℕ
 table_room = 4096
 
@@ -47,7 +47,7 @@ undecided NoRoom place = NoMemory
 abbrev pub fault_of : List ℕ → Option InputFault
 fault_of input = or_else (input_fault input) (opening_fault input)
 
--- the decision of an input, where it has no fault
+-- where the decision of an input leads, and the strikes that its sweeps make, if the input has no fault
 abbrev pub decided : List ℕ → Swept
 decided input = decision (exchange_of input) begun (strikes input)
 

@@ -13,7 +13,7 @@ use docket::{DecideError, Decision, Docket};
 use std::alloc::{AllocError, Global};
 use systems::Stored;
 
-/// How many entries the table has.
+/// How many entries the table has: one for each pair of 64 old and 64 new states.
 const TABLE_ROOM: usize = 4_096;
 
 /// A table in which nothing is struck.

@@ -29,7 +29,7 @@ pub enum InputReason {
 #[derive(Clone, Copy, Debug, PartialEq, Eq)]
 pub struct InputFault {
     pub reason: InputReason,
-    /// Where the item begins.
+    /// Where the item begins: of an input that is too long, the first byte too many, and of the opening, the list.
     pub place: usize,
 }
 
