@@ -98,7 +98,7 @@ listed input place = listed_from (length input) input place
 abbrev pub proposed : List ℕ → ℕ → List Strike
 proposed input place = filter_map strike_of (listed input place).records
 
--- the strikes that are proposed; none where the list has a fault
+-- the strikes that are proposed, up to the first fault of the list
 abbrev pub strikes : List ℕ → List Strike
 strikes input = proposed input (list_place input)
 
