@@ -1,3 +1,4 @@
 pub mod Failure
 pub mod File
+pub mod Input
 pub mod Text
