@@ -7,7 +7,7 @@ use Rattle.codec.proofs.Filed.{unfiled-filed}
 use Rattle.systems.specs.Layout.{words_taken}
 use Rattle.systems.specs.Meaning.{Meaning, Lawful}
 use Rattle.files.specs.Flattening.{readings_flattened, next_flattened, row_flattened, rows_flattened, flattened}
-use Rattle.files.specs.Put.{Few}
+use Rattle.files.specs.Few.{Few}
 use Rattle.files.specs.Sequence.{value_at, after, skip, nth, Spells}
 use Rattle.files.specs.SystemFile.{unread, controller_place, environment_place, next_place, next_numbers, row_end, row_start, states_at, channels_at, rows_place, row_at, described}
 use Rattle.files.specs.SystemWrite.{ReadsBack}

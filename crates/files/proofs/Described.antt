@@ -1,5 +1,5 @@
 -- The system that a file without a fault describes: its answers, that it has a layout, and that the file is just its numbers.
-use Rattle.std.proofs.Common.{◌≡◌, ℕ, zero, suc, ◌+◌, ◌*◌, ◌/◌, ◌%◌, ◌<◌, ◌≤◌, eqb, ltb, List, ◌∷◌, ◌++◌, length, get_or, drop, pos, negsuc, Ok, sym, refl, ap, ◌∙◌, subst, inl, inr, mul_comm, arith}
+use Rattle.std.proofs.Common.{◌≡◌, ℕ, zero, suc, ◌+◌, ◌*◌, ◌/◌, ◌%◌, ◌<◌, ◌≤◌, eqb, ltb, List, ◌∷◌, ◌++◌, length, get_or, drop, pos, negsuc, None, Ok, sym, refl, ap, ◌∙◌, subst, inl, inr, mul_comm, arith}
 use Rattle.std.proofs.lemmas.Nat.{mul-add-lt}
 use Rattle.std.proofs.lemmas.Int.{ints}
 use Rattle.std.proofs.lemmas.Bool.Decides.{nat_tests}
@@ -10,13 +10,14 @@ use Rattle.codec.proofs.Filed.{filed-unfiled}
 use Rattle.systems.specs.Bounded.{joined_below, listed_below}
 use Rattle.systems.specs.Layout.{row_words, row_place, words_taken, stored, unbiased}
 use Rattle.systems.specs.Meaning.{Meaning}
+use Rattle.files.specs.Few.{Few}
 use Rattle.files.specs.Flattening.{row_flattened, flattened, ReadsAsFiled}
 use Rattle.files.specs.Sequence.{value_at, skip, nth, Spells}
-use Rattle.files.specs.SystemFile.{controller_place, environment_place, next_place, next_numbers, row_end, states_at, channels_place, channels_at, rows_place, row_at, described}
+use Rattle.files.specs.SystemFile.{controller_place, environment_place, next_place, next_numbers, row_end, states_at, channels_place, channels_at, rows_place, row_at, file_fault, described}
 use Rattle.files.specs.Words.{biased, row_word, system_words, row_cell}
 use Rattle.files.proofs.Held.{Storable, by_rows, held, held_laid_out}
 use Rattle.files.proofs.Spelled.{read_at, value_bound, Spells-append, spells_listed, spells_rows_of}
-use Rattle.files.proofs.Tested.{RowTested, FileTested}
+use Rattle.files.proofs.Tested.{RowTested, FileTested, file_tested}
 
 -- a row spells the numbers that it was read to
 spells_row : (bytes : List ℕ) (n c w start : ℕ) → RowTested bytes n c w start → (reading : ℕ → ℕ) (p q : ℕ) (next : ℕ → ℕ → ℕ)
@@ -165,3 +166,7 @@ module _ (bytes : List ℕ) (place : ℕ) where
           held_laid_out (described bytes place) storable rest,
           subst (λ x. Spells (flattened x) (drop place bytes) to) (sym (layout_holds rest)) file_spelled,
         )
+
+-- a file without a fault describes a system that is small enough for a file
+pub few : (bytes : List ℕ) (place room : ℕ) → file_fault bytes place room ≡ None → Few (described bytes place)
+few bytes place room none = (storable bytes place room (file_tested bytes place room none)).few

@@ -8,7 +8,7 @@ use Rattle.std.proofs.lemmas.Bool.{cases_lt, ne_eqb}
 use Rattle.systems.specs.Layout.{LaidOut, RowLaidOut, stored, unbiased, row_words, row_place, words_taken, state_count, channel_count, reading_word, controller_word, environment_word, next_word}
 use Rattle.systems.specs.Layout.{row_word as stored_word}
 use Rattle.systems.specs.Meaning.{Meaning, no_question}
-use Rattle.files.specs.Put.{Few}
+use Rattle.files.specs.Few.{Few}
 use Rattle.files.specs.Words.{biased, row_word, system_word, system_words}
 use Rattle.files.proofs.Behind.{row_ends}
 

@@ -10,7 +10,8 @@ use Rattle.codec.proofs.Encoded.{number-encoded}
 use Rattle.systems.specs.Bounded.{all_below, joined_below, listed_below}
 use Rattle.systems.specs.Meaning.{Meaning}
 use Rattle.systems.proofs.Bounded.{all_below_true}
-use Rattle.files.specs.Put.{Few, Wrote, Put}
+use Rattle.files.specs.Few.{Few}
+use Rattle.files.specs.Put.{Wrote, Put}
 use Rattle.files.specs.declared.put.Writer.{Writer}
 use Rattle.files.specs.Sequence.{Spells}
 use Rattle.files.specs.SystemWrite.{spelled, few_moves}

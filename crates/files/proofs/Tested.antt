@@ -98,6 +98,16 @@ file_fault_from bytes place room ok =
     (first_below_none_from (states_at bytes place) (λ w. row_fault bytes (states_at bytes place) (channels_at bytes place) w (row_at bytes place w))
     (λ w l. row_fault_from bytes (states_at bytes place) (channels_at bytes place) w (row_at bytes place w) (ok.rows w l)))
 
+-- a file without a fault has none either where there is other room that suffices
+pub fault_elsewhere : (bytes : List ℕ) (place room other : ℕ) → file_fault bytes place room ≡ None → file_words bytes place ≤ other → file_fault bytes place other ≡ None
+fault_elsewhere bytes place room other none enough =
+    let ok = file_tested bytes place room none in
+    file_fault_from bytes place other (record { states = ok.states; channels = ok.channels; room_enough = enough; rows = ok.rows })
+
+-- as where there are just the words that its system takes
+pub fits_its_words : (bytes : List ℕ) (place room : ℕ) → file_fault bytes place room ≡ None → file_fault bytes place (file_words bytes place) ≡ None
+fits_its_words bytes place room none = fault_elsewhere bytes place room (file_words bytes place) none (omega arith)
+
 -- a file that is granted the words from a place on, in a memory of so many
 pub record Granted (bytes : List ℕ) (place long at : ℕ) (file : TestedFile) : Type 0 where
   pub tested : FileTested bytes place (long - at)

@@ -6,4 +6,5 @@ pub mod StrikeList
 pub mod Words
 pub mod Flattening
 pub mod SystemWrite
+pub mod Few
 pub mod Put

@@ -1,7 +1,6 @@
 -- Numbers that were put into bytes, from a place on.
 use Rattle.std.specs.Prelude.{◌≡◌, ℕ, ◌+◌, ◌<◌, ◌≤◌, List, length}
 use Rattle.std.specs.List.{AllByRecursion}
-use Rattle.systems.specs.Meaning.{Meaning}
 use Rattle.files.specs.declared.put.Writer.{Writer}
 use Rattle.files.specs.SystemWrite.{spelled}
 use Rattle.files.specs.Words.{put_at}
@@ -17,10 +16,3 @@ pub record Put (before : List ℕ) (place : ℕ) (numbers : List ℕ) (after : L
 pub record Wrote (before : Writer) (numbers : List ℕ) (after : Writer) : Type 0 where
   pub same_bytes : after.bytes.ghost_name ≡ before.bytes.ghost_name
   pub at : Put before.bytes.now before.place numbers after.bytes.now after.place
-
--- a system that is small enough for a file
-pub record Few (m : Meaning) : Type 0 where
-  pub few_states : m.states ≤ 256
-  pub few_channels : m.channels ≤ 8
-  pub few_controller_moves : (w : ℕ) → w < m.states → m.controller_moves w ≤ 16
-  pub few_environment_moves : (w : ℕ) → w < m.states → m.environment_moves w ≤ 16

@@ -11,6 +11,7 @@ mod rows;
 mod sequence;
 mod small;
 mod strike_list;
+mod system_file;
 mod system_read;
 mod system_write;
 
@@ -18,6 +19,7 @@ pub use fault::{ReadFault, Reason};
 pub use list_fault::{ListFault, ListReason};
 pub use record::{Record, Text};
 pub use strike_list::read_record;
+pub use system_file::SystemFile;
 pub use system_read::{SystemRead, read_system};
 pub use system_write::{SystemWriteFault, write_system};
 

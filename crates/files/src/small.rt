@@ -1,7 +1,7 @@
 //! Systems that are small enough for a file.
 ghost use Rattle.std.specs.Prelude.{◌≡◌, ℕ, if◌then◌else◌, length, nat_lt, IfOk, IfErr, OnOk, Some, None};
 ghost use Rattle.systems.specs.Bounded.{all_below};
-ghost use Rattle.files.specs.Put.{Few};
+ghost use Rattle.files.specs.Few.{Few};
 ghost use Rattle.files.specs.SystemWrite.{system_bytes, few_moves, write_fault};
 
 use crate::system_write::SystemWriteFault;

@@ -1,5 +1,5 @@
 -- Readings that differ by at most the tolerance of their channel.
-use Rattle.std.specs.Prelude.{ℕ, ◌<◌, ◌≤◌, Bool, cond, List, ◌-ℤ◌, is_ok, Ok, Err, Result, nat_le, nat_lt, slice_index, slice_set, unsigned_abs}
+use Rattle.std.specs.Prelude.{ℕ, ◌<◌, ◌≤◌, Bool, cond, List, ◌-ℤ◌, is_ok, Ok, Err, Option, Result, nat_le, nat_lt, position, slice_index, slice_set, unsigned_abs}
 use Rattle.systems.specs.Meaning.{Reading}
 use Rattle.likeness.specs.declared.within.ToleranceFault.{ToleranceFault}
 use Rattle.likeness.specs.declared.within.ToleranceFault.TheVariants.{NoChannel, TooWide}
@@ -7,6 +7,10 @@ use Rattle.likeness.specs.declared.within.ToleranceFault.TheVariants.{NoChannel,
 -- each of the eight tolerances is at most 1,000
 abbrev pub Mild : List ℕ → Type 0
 Mild ts = (k : ℕ) → k < 8 → slice_index ts k ≤ 1000
+
+-- the first channel whose tolerance is above 1,000, if there is one
+abbrev pub first_too_wide : List ℕ → Option ℕ
+first_too_wide ts = position (λ t. nat_lt 1000 t) ts
 
 -- the tolerance of channel k: that of the list, and 0 from channel 8 on
 abbrev pub tolerance_of : List ℕ → ℕ → ℕ

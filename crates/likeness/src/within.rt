@@ -1,6 +1,6 @@
 //! The likeness of readings that differ little.
-ghost use Rattle.std.specs.Prelude.{◌≡◌, ◌<◌, ◌≤◌, replicate, IfErr, IfOk};
-ghost use Rattle.likeness.specs.Within.{Mild, set_answer, tolerance_of, tolerances_after, within};
+ghost use Rattle.std.specs.Prelude.{◌≡◌, ◌<◌, ◌≤◌, replicate, Some, None, IfErr, IfOk, MatchResult};
+ghost use Rattle.likeness.specs.Within.{Mild, first_too_wide, set_answer, tolerance_of, tolerances_after, within};
 ghost use Rattle.likeness.specs.declared.within.ToleranceFault.TheVariants.{TooWide};
 
 use crate::likeness::Likeness;
@@ -42,6 +42,15 @@ fn check_tolerance(channel: u8, tolerance: u16) -> Result<(), ToleranceFault>
     Ok(())
 }
 
+/// The first channel whose tolerance is wider than the widest.
+fn first_too_wide(tolerances: &[u16; TOLERANCE_CHANNELS]) -> Option<usize>
+    ensures { result ≡ first_too_wide tolerances.now }
+{
+    tolerances
+        .iter()
+        .position(|tolerance| *tolerance > MAX_TOLERANCE)
+}
+
 impl Within {
     /// Tolerance 0 on every channel.
     pub fn new() -> Within
@@ -63,6 +72,17 @@ impl Within {
         Ok(Within {
             tolerances: [tolerance; TOLERANCE_CHANNELS],
         })
+    }
+
+    /// These tolerances of the channels that can have one; where one is too wide, the first channel that has such.
+    pub fn per_channel(tolerances: [u16; TOLERANCE_CHANNELS]) -> Result<Within, usize>
+        ensures granted { IfOk result (λ within. within.tolerances ≡ tolerances) }
+        ensures answer { MatchResult result (λ _. first_too_wide tolerances ≡ None) (λ channel. first_too_wide tolerances ≡ Some channel) }
+    {
+        match first_too_wide(&tolerances) {
+            Some(channel) => Err(channel),
+            None => Ok(Within { tolerances }),
+        }
     }
 
     /// The tolerance of the channel.
