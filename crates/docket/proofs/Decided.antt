@@ -12,17 +12,20 @@ use Rattle.docket.proofs.Good.{Good, good_after, good_count, good_opened, good_s
 use Rattle.docket.proofs.Laws.{calm_none_loose}
 use Rattle.docket.proofs.Runs.{after_more, answers_more}
 use Rattle.docket.specs.Decide.{IsRun, Told, decision, full_budget, proposals, swept_out, with_earlier}
+use Rattle.docket.specs.Judge.{Judges, judge_does, judge_says, outcome_of}
 use Rattle.docket.specs.Position.{Position, marked, opened}
 use Rattle.docket.specs.Refusals.{if_granted, opening_refusal, unless, use_refusal}
 use Rattle.docket.specs.Run.{after, answers, does, granted as granted_as, says}
 use Rattle.docket.specs.Settle.{first_loose, settle_says, settled_unless, settlement}
 use Rattle.docket.specs.Strikes.{open_does}
 use Rattle.docket.specs.Sweep.{Swept, sweep_pair, sweep_row, sweep_rows, swept}
+use Rattle.docket.specs.Use.{UnderWay}
 use Rattle.docket.specs.declared.call.Call.{Call}
 use Rattle.docket.specs.declared.call.Call.TheVariants.{Open, Sweep, Settle}
 use Rattle.docket.specs.declared.call.Grant.{Grant}
 use Rattle.docket.specs.declared.call.Grant.TheVariants.{Opened, Swept as SweptGrant, Checked}
 use Rattle.docket.specs.declared.decision.Decision.{Decision}
+use Rattle.docket.specs.declared.outcome.Outcome.{Outcome}
 use Rattle.docket.specs.declared.refusal.Refusal.{Refusal}
 use Rattle.docket.specs.declared.strike.Settlement.TheVariants.{Settled}
 use Rattle.docket.specs.declared.strike.Strike.{Strike}
@@ -284,35 +287,61 @@ module _ (A : Arena) (c : Closed A) where
 pub pairs_most : (rows columns : ℕ) → rows ≤ 256 → columns ≤ 256 → rows * columns ≤ 65536
 pairs_most rows columns few_rows few_columns = mul-le rows columns 256 256 few_rows few_columns
 
--- A decision whose opening is granted: behind the opening it is at p, behind the calls at q, and the sweeps lead from there to y.
-module _ (A : Arena) (c : Closed A) (x : Position) (calls : List Call) (granted : opening_refusal A (length x.table) ≡ None) (p q : Position) (first : p ≡ open_does A x) (second : q ≡ after A p calls) where
-  behind_opening : p ≡ opened A x
-  behind_opening = first ∙ ap (λ o. if_granted o (opened A x) x) granted
+-- A docket under way at q, and the sweeps that lead from there to y.
+module _ (A : Arena) (c : Closed A) (q : Position) (way : UnderWay A q) where
+  good_under_way : Good A q
+  good_under_way = subst (λ z. Good A z) (sym way.led) (good_after A c (opened A way.before) (good_opened A way.before way.granted) way.calls)
 
-  pub behind_calls : q ≡ after A (opened A x) calls
-  behind_calls = second ∙ ap (λ z. after A z calls) behind_opening
-
-  pub answers_behind : answers A p calls ≡ answers A (opened A x) calls
-  answers_behind = ap (λ z. answers A z calls) behind_opening
-
-  good_behind_calls : Good A q
-  good_behind_calls = subst (λ z. Good A z) (sym behind_calls) (good_after A c (opened A x) (good_opened A x granted) calls)
-
-  pub used_behind_calls : use_refusal A q ≡ None
-  used_behind_calls = good_behind_calls.in_use
+  pub used_under_way : use_refusal A q ≡ None
+  used_under_way = good_under_way.in_use
 
   module _ (y : Position) (third : y ≡ (swept_out A (pairs A) q).position) where
     swept_good : Good A y × ((swept A y full_budget).made ≡ 0)
-    swept_good = subst (λ z. Good A z × ((swept A z full_budget).made ≡ 0)) (sym third) (swept_out_enough A c (pairs A) q good_behind_calls (omega arith))
+    swept_good = subst (λ z. Good A z × ((swept A z full_budget).made ≡ 0)) (sym third) (swept_out_enough A c (pairs A) q good_under_way (omega arith))
 
     pub settled_behind_sweeps : settle_says A y ≡ Ok (Settled (number_standing A y.table))
     settled_behind_sweeps = none_made_says A c y swept_good.0 full_budget (omega arith) swept_good.1
 
-    largest_behind_sweeps : Largest A (standing A y.table)
+    pub largest_behind_sweeps : Largest A (standing A y.table)
     largest_behind_sweeps = none_made_largest A c y swept_good.0 full_budget (omega arith) swept_good.1
 
+-- A judgement whose opening is granted: behind the opening it is at p, and the sweeps lead from there to y.
+module _ (A : Arena) (c : Closed A) (x : Position) (granted : opening_refusal A (length x.table) ≡ None) (p : Position) (first : p ≡ open_does A x) where
+  behind_opening : p ≡ opened A x
+  behind_opening = first ∙ ap (λ o. if_granted o (opened A x) x) granted
+
+  pub opened_under_way : UnderWay A p
+  opened_under_way = record { before = x; calls = []; granted = granted; led = behind_opening }
+
+  pub judged_says : Ok (outcome_of A (swept_out A (pairs A) p)) ≡ judge_says A x
+  judged_says = ap (λ z. Ok (outcome_of A (swept_out A (pairs A) z))) behind_opening ∙ sym (ap (λ o. unless o (outcome_of A (decision A x []))) granted)
+
+  pub judged_does : (swept_out A (pairs A) p).position ≡ judge_does A x
+  judged_does = ap (λ z. (swept_out A (pairs A) z).position) behind_opening ∙ sym (ap (λ o. if_granted o (decision A x []).position x) granted)
+
+  pub judged : (y : Position) → y ≡ (swept_out A (pairs A) p).position → (o : Outcome) → o ≡ outcome_of A (swept_out A (pairs A) p) → Judges A y.table (Ok o)
+  judged y third o told =
+      let large = largest_behind_sweeps A c p opened_under_way y third in
+      let verdict : o.replaces ≡ start_stands A y.table = ap (λ z. z.replaces) told ∙ ap (λ z. start_stands A z.table) (sym third) in
+      (large, subst (λ b. Decides b (Replaces A)) (sym verdict) (replaces_by A y.table large))
+
+-- A decision whose opening is granted: behind the opening it is at p, behind the calls at q, and the sweeps lead from there to y.
+module _ (A : Arena) (c : Closed A) (x : Position) (calls : List Call) (granted : opening_refusal A (length x.table) ≡ None) (p q : Position) (first : p ≡ open_does A x) (second : q ≡ after A p calls) where
+  opened_behind : p ≡ opened A x
+  opened_behind = behind_opening A c x granted p first
+
+  pub behind_calls : q ≡ after A (opened A x) calls
+  behind_calls = second ∙ ap (λ z. after A z calls) opened_behind
+
+  pub answers_behind : answers A p calls ≡ answers A (opened A x) calls
+  answers_behind = ap (λ z. answers A z calls) opened_behind
+
+  pub calls_under_way : UnderWay A q
+  calls_under_way = record { before = x; calls = calls; granted = granted; led = behind_calls }
+
+  module _ (y : Position) (third : y ≡ (swept_out A (pairs A) q).position) where
     swept_calls : SweptOut A q (swept_out A (pairs A) q)
-    swept_calls = swept_out_calls A c (pairs A) q good_behind_calls (omega arith)
+    swept_calls = swept_out_calls A c (pairs A) q (good_under_way A c q calls_under_way) (omega arith)
 
     -- the sweeps and the settle check
     abbrev last_calls : List Call
@@ -326,7 +355,7 @@ module _ (A : Arena) (c : Closed A) (x : Position) (calls : List Call) (granted 
         answers_more A q (sweeps swept_calls.made) (Settle ∷ [])
         ∙ ap (λ rs. rs ++ answers A (after A q (sweeps swept_calls.made)) (Settle ∷ [])) swept_calls.answered
         ∙ ap (λ z. swept_answers swept_calls.made ++ answers A z (Settle ∷ [])) (sym (third ∙ swept_calls.ended))
-        ∙ ap (λ r. swept_answers swept_calls.made ++ granted_as (λ s. Checked s) r ∷ []) settled_behind_sweeps
+        ∙ ap (λ r. swept_answers swept_calls.made ++ granted_as (λ s. Checked s) r ∷ []) (settled_behind_sweeps A c q calls_under_way y third)
 
     -- the decision is a run
     run_told : (d : Decision) (strikes : List Strike) → calls ≡ proposals strikes → vec_items d.answers ≡ answers A p calls → d.swept ≡ (swept_out A (pairs A) q).made → d.standing ≡ number_standing A y.table → IsRun A x strikes d y
@@ -356,7 +385,7 @@ module _ (A : Arena) (c : Closed A) (x : Position) (calls : List Call) (granted 
     pub told : (d : Decision) (z : Position) (strikes : List Strike) → calls ≡ proposals strikes → z ≡ y → vec_items d.answers ≡ answers A p calls → d.swept ≡ (swept_out A (pairs A) q).made → d.standing ≡ number_standing A y.table → d.replaces ≡ start_stands A z.table → Told A x strikes d z
     told d z strikes as_calls same answered swept counted verdict =
         let swept_from_calls : swept_out A (pairs A) q ≡ decision A x strikes = ap (λ z. swept_out A (pairs A) z) behind_calls ∙ ap (λ cs. swept_out A (pairs A) (after A (opened A x) cs)) as_calls in
-        let large : Largest A (standing A z.table) = subst (λ o. Largest A (standing A o.table)) (sym same) largest_behind_sweeps in
+        let large : Largest A (standing A z.table) = subst (λ o. Largest A (standing A o.table)) (sym same) (largest_behind_sweeps A c q calls_under_way y third) in
         record {
           granted = granted;
           answered = answered ∙ answers_behind ∙ ap (λ cs. answers A (opened A x) cs) as_calls;

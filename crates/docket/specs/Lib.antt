@@ -1,5 +1,6 @@
 pub mod Certificate
 pub mod Decide
+pub mod Judge
 pub mod Law
 pub mod Position
 pub mod Refusals

@@ -2,15 +2,17 @@
 ghost use Rattle.std.specs.Prelude.{◌≡◌, ◌+◌, ◌≤◌, List, [], length, IfOk, vec_len, vec_capacity};
 ghost use Rattle.arena.specs.Table.{pairs, start_stands};
 ghost use Rattle.docket.specs.Decide.{Decided, full_budget, proposals, swept_out};
+ghost use Rattle.docket.specs.Judge.{Judges, judge_does, judge_says, outcome_of};
 ghost use Rattle.docket.specs.Position.{position};
 ghost use Rattle.docket.specs.Seen.{ledger_view};
 ghost use Rattle.docket.specs.Sweep.{swept};
-ghost use Rattle.docket.specs.Use.{InUse};
+ghost use Rattle.docket.specs.Use.{InUse, UnderWay};
 ghost use Rattle.docket.specs.declared.strike.Strike.{Strike};
 
 use super::{Docket, Ledger};
 use crate::call::{Call, Grant};
 use crate::decision::{DecideError, Decision};
+use crate::outcome::Outcome;
 use crate::refusal::Refusal;
 use crate::strike::{Settlement, Strike};
 use arena::{Arena, Board};
@@ -67,6 +69,38 @@ impl Ledger {
 }
 
 impl Docket {
+    /// Sweeps until a sweep makes no strike, and settles.
+    fn conclude<A: Arena>(&mut self, arena: &A, table: &mut [u32]) -> Outcome
+        requires { UnderWay (A.Arena.view arena.now) (position self.old table.old) }
+        ensures outcome { result ≡ outcome_of (A.Arena.view arena.now) (swept_out (A.Arena.view arena.now) (pairs (A.Arena.view arena.now)) (position self.old table.old)) }
+        ensures after { position self.new table.new ≡ (swept_out (A.Arena.view arena.now) (pairs (A.Arena.view arena.now)) (position self.old table.old)).position }
+    {
+        let Some(ledger) = &mut self.ledger else {
+            unreachable()
+        };
+        let swept = ledger.sweep_out(arena, table);
+        let Ok(Settlement::Settled(standing)) = self.settle(arena, table) else {
+            unreachable()
+        };
+        Outcome {
+            swept,
+            standing,
+            replaces: verdict(&Board { arena, table }),
+        }
+    }
+
+    /// Opens the docket, sweeps until a sweep makes no strike, and settles.
+    ///
+    /// It tells what `decide` does where no strike is proposed, and takes no memory. A refused call changes nothing.
+    pub fn judge<A: Arena>(&mut self, arena: &A, table: &mut [u32]) -> Result<Outcome, Refusal>
+        ensures answer { result ≡ judge_says (A.Arena.view arena.now) (position self.old table.old) }
+        ensures after { position self.new table.new ≡ judge_does (A.Arena.view arena.now) (position self.old table.old) }
+        ensures law { Judges (A.Arena.view arena.now) table.new result }
+    {
+        self.open(arena, table)?;
+        Ok(self.conclude(arena, table))
+    }
+
     /// Decides, with the strikes as calls and room for their answers.
     fn decide_in<A: Arena>(
         &mut self,
@@ -84,18 +118,16 @@ impl Docket {
         let Ok(()) = self.run(arena, table, calls, &mut answers) else {
             unreachable()
         };
-        let Some(ledger) = &mut self.ledger else {
-            unreachable()
-        };
-        let swept = ledger.sweep_out(arena, table);
-        let Ok(Settlement::Settled(standing)) = self.settle(arena, table) else {
-            unreachable()
-        };
+        let Outcome {
+            swept,
+            standing,
+            replaces,
+        } = self.conclude(arena, table);
         Ok(Decision {
             answers,
             swept,
             standing,
-            replaces: verdict(&Board { arena, table }),
+            replaces,
         })
     }
 

@@ -1,0 +1,28 @@
+-- Judgements: decisions without proposals, which hand back no list.
+use Rattle.std.specs.Prelude.{ℕ, List, [], length, Ok, Err, Decides, Result}
+use Rattle.arena.specs.Arena.{Arena}
+use Rattle.arena.specs.Pairs.{Largest, Replaces}
+use Rattle.arena.specs.Table.{number_standing, standing, start_stands}
+use Rattle.docket.specs.Decide.{decision}
+use Rattle.docket.specs.Position.{Position}
+use Rattle.docket.specs.Refusals.{if_granted, opening_refusal, unless}
+use Rattle.docket.specs.Sweep.{Swept}
+use Rattle.docket.specs.declared.outcome.Outcome.{Outcome}
+use Rattle.docket.specs.declared.refusal.Refusal.{Refusal}
+
+-- the outcome of sweeps that have ended
+abbrev pub outcome_of : Arena → Swept → Outcome
+outcome_of A y = record { swept = y.made; standing = number_standing A y.position.table; replaces = start_stands A y.position.table }
+
+-- what a judgement answers
+abbrev pub judge_says : Arena → Position → Result Outcome Refusal
+judge_says A x = unless (opening_refusal A (length x.table)) (outcome_of A (decision A x []))
+
+-- what a judgement leaves
+abbrev pub judge_does : Arena → Position → Position
+judge_does A x = if_granted (opening_refusal A (length x.table)) (decision A x []).position x
+
+-- what an answer tells of the table: its standing pairs are the largest simulation, and the new system replaces the old or does not, as it says
+abbrev pub Judges : Arena → List ℕ → Result Outcome Refusal → Type 0
+Judges A table (Ok o) = Largest A (standing A table) × Decides o.replaces (Replaces A)
+Judges A table (Err refusal) = Unit {0}
