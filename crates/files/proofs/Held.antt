@@ -5,11 +5,12 @@ use Rattle.std.proofs.lemmas.List.FromFn.{length-map-range_with_len, get_or-map-
 use Rattle.std.proofs.lemmas.List.{get_or_append_left, length-append}
 use Rattle.std.proofs.lemmas.Bool.Decides.{nat_tests}
 use Rattle.std.proofs.lemmas.Bool.{cases_lt, ne_eqb}
-use Rattle.systems.specs.Layout.{LaidOut, RowLaidOut, stored, unbiased, row_words, row_place, words_taken, state_count, channel_count, reading_word, controller_word, environment_word, next_word}
+use Rattle.systems.specs.Layout.{LaidOut, RowLaidOut, stored, stored_words, unbiased, row_words, row_place, words_taken, state_count, channel_count, reading_word, controller_word, environment_word, next_word}
 use Rattle.systems.specs.Layout.{row_word as stored_word}
 use Rattle.systems.specs.Meaning.{Meaning, no_question}
+use Rattle.systems.proofs.LaidOut.{stored_words_kept}
 use Rattle.files.specs.Few.{Few}
-use Rattle.files.specs.Words.{biased, row_word, system_word, system_words}
+use Rattle.files.specs.Words.{Holds, biased, row_word, system_word, system_words}
 use Rattle.files.proofs.Behind.{row_ends}
 
 -- what a system needs to have a layout: sizes as in a file, readings of 16 bits, and 0 for an argument out of range
@@ -176,3 +177,7 @@ held m ok rest = stored_same m ok (system_words m ++ rest) (word_held m rest)
 
 pub held_laid_out : (m : Meaning) → Storable m → (rest : List ℕ) → LaidOut (system_words m ++ rest)
 held_laid_out m ok rest = laid_out m ok (system_words m ++ rest) (word_held m rest) (long_enough m rest)
+
+-- the stored system over words that hold a system is that
+pub stored_is : (m : Meaning) (words lent kept : List ℕ) → Holds m words → lent ≡ words → kept ≡ stored_words lent → stored kept ≡ m
+stored_is m words lent kept holds l k = ap stored (k ∙ ap stored_words l ∙ stored_words_kept words holds.0) ∙ holds.1

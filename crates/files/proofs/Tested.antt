@@ -104,6 +104,10 @@ fault_elsewhere bytes place room other none enough =
     let ok = file_tested bytes place room none in
     file_fault_from bytes place other (record { states = ok.states; channels = ok.channels; room_enough = enough; rows = ok.rows })
 
+-- the words that its system takes fit the room
+pub fits_the_room : (bytes : List ℕ) (place room : ℕ) → file_fault bytes place room ≡ None → file_words bytes place ≤ room
+fits_the_room bytes place room none = (file_tested bytes place room none).room_enough
+
 -- as where there are just the words that its system takes
 pub fits_its_words : (bytes : List ℕ) (place room : ℕ) → file_fault bytes place room ≡ None → file_fault bytes place (file_words bytes place) ≡ None
 fits_its_words bytes place room none = fault_elsewhere bytes place room (file_words bytes place) none (omega arith)

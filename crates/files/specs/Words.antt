@@ -1,8 +1,8 @@
 -- The words that a system is laid out in, and those that a file's numbers give.
-use Rattle.std.specs.Prelude.{ℕ, ◌+◌, ◌-◌, ◌*◌, ◌/◌, ◌%◌, Bool, cond, ◌&&◌, List, ◌++◌, map, length, take, drop, pos, ◌+ℤ◌, ◌==◌, nat_lt, unsigned_abs}
+use Rattle.std.specs.Prelude.{◌≡◌, ℕ, ◌+◌, ◌-◌, ◌*◌, ◌/◌, ◌%◌, Bool, cond, ◌&&◌, List, ◌++◌, map, length, take, drop, pos, ◌+ℤ◌, ◌==◌, nat_lt, unsigned_abs}
 use Rattle.std.specs.List.{range_with_len}
 use Rattle.codec.specs.Filing.{unfiled}
-use Rattle.systems.specs.Layout.{row_words, words_taken}
+use Rattle.systems.specs.Layout.{LaidOut, row_words, stored, words_taken}
 use Rattle.systems.specs.Meaning.{Meaning, Reading}
 use Rattle.files.specs.Sequence.{value_at, nth}
 use Rattle.files.specs.SystemFile.{controller_place, environment_place, next_place}
@@ -49,3 +49,7 @@ row_cell bytes c start j =
     (cond (j == c) (value_at bytes (controller_place bytes c start))
     (cond (j == c + 1) (value_at bytes (environment_place bytes c start))
     (next_cell bytes (value_at bytes (controller_place bytes c start)) (value_at bytes (environment_place bytes c start)) (next_place bytes c start) (j - (c + 2)))))
+
+-- words hold a system in its layout
+abbrev pub Holds : Meaning → List ℕ → Type 0
+Holds m words = LaidOut words × (stored words ≡ m)

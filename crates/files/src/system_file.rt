@@ -26,11 +26,12 @@ pub struct SystemFile<'a> {
 
 impl<'a> SystemFile<'a> {
     /// Tests the file that begins at the byte place, where there is room for so many words.
-    #[tactic(auto, using(crate::proofs::Tested::fits_its_words, crate::proofs::Described::few))]
+    #[tactic(auto, using(crate::proofs::Tested::fits_its_words, crate::proofs::Tested::fits_the_room, crate::proofs::Described::few))]
     pub fn test(bytes: &'a [u8], place: usize, room: usize) -> Result<SystemFile<'a>, ReadFault>
         ensures answer { MatchResult result (λ _. file_fault bytes.now place room ≡ None) (λ fault. file_fault bytes.now place room ≡ Some fault) }
         ensures bytes { IfOk result (λ file. file.bytes.now ≡ bytes.now) }
         ensures place { IfOk result (λ file. file.place ≡ place) }
+        ensures room { IfOk result (λ _. file_words bytes.now place ≤ room) }
         ensures few { IfOk result (λ _. Few (described bytes.now place)) }
     {
         let parts = check_file(bytes, place, room)?;

@@ -2,8 +2,6 @@
 use Rattle.std.proofs.Common.{rules, ◌≡◌, ℕ, List, length, replicate, Some, None, Err, Result, refl, sym, ap, ◌∙◌}
 use Rattle.std.specs.Prelude.{Ok, IsErrAnd, MatchResult, option_map}
 use Rattle.systems.specs.Meaning.{Meaning}
-use Rattle.systems.specs.Layout.{stored, stored_words}
-use Rattle.systems.proofs.LaidOut.{stored_words_kept}
 use Rattle.likeness.specs.Within.{within}
 use Rattle.arena.specs.Arena.{Arena}
 use Rattle.arena.specs.Exchange.{exchange}
@@ -17,14 +15,10 @@ use Rattle.docket.specs.declared.refusal.Refusal.{Refusal}
 use Rattle.docket.specs.declared.strike.Strike.{Strike}
 use Rattle.report.specs.Answer.{Unless}
 use Rattle.report.specs.Fault.{fault_at}
-use Rattle.report.specs.Input.{Holds, list_place, new_system, old_system, strikes, tolerance}
+use Rattle.report.specs.Input.{list_place, new_system, old_system, strikes, tolerance}
 use Rattle.report.specs.Output.{Tells, begun, exchange_of, opening_fault, table_room, undecided}
 use Rattle.report.specs.declared.error.ReportError.{ReportError}
 use Rattle.report.specs.declared.fault.InputReason.TheVariants.{Opening}
-
--- the stored system over the words that were read is the input's
-pub stored_is : (m : Meaning) (words lent kept : List ℕ) → Holds m words → lent ≡ words → kept ≡ stored_words lent → stored kept ≡ m
-stored_is m words lent kept holds l k = ap stored (k ∙ ap stored_words l ∙ stored_words_kept words holds.0) ∙ holds.1
 
 -- what was read of an input is its exchange
 pub exchange_is : (input : List ℕ) (old new : Meaning) (tolerances : List ℕ) → old ≡ old_system input → new ≡ new_system input → tolerances ≡ replicate 8 (tolerance input) → exchange old new (within tolerances) ≡ exchange_of input

@@ -3,13 +3,13 @@ use Rattle.std.specs.Prelude.{◌≡◌, ℕ, zero, suc, cond, List, [], ◌∷�
 use Rattle.std.specs.List.{filter_map}
 use Rattle.std.specs.Result.{result_err}
 use Rattle.systems.specs.Bounded.{or_else}
-use Rattle.systems.specs.Layout.{LaidOut, stored}
 use Rattle.systems.specs.Meaning.{Meaning}
 use Rattle.arena.specs.declared.cause.Cause.TheVariants.{Sight, Move}
 use Rattle.docket.specs.declared.strike.Strike.{Strike}
 use Rattle.files.specs.Sequence.{number_at, value_at, after}
 use Rattle.files.specs.StrikeList.{record_at}
 use Rattle.files.specs.SystemFile.{described, file_fault, file_read}
+use Rattle.files.specs.Words.{Holds}
 use Rattle.files.specs.declared.list_fault.ListFault.{ListFault}
 use Rattle.files.specs.declared.record.Record.{Record}
 use Rattle.files.specs.declared.record.Record.TheVariants.{Sight as SightRecord, Move as MoveRecord, Maker, Remark}
@@ -49,10 +49,6 @@ old_system input = described input (old_place input)
 -- the new system
 abbrev pub new_system : List ℕ → Meaning
 new_system input = described input (new_place input)
-
--- words hold a system in its layout
-abbrev pub Holds : Meaning → List ℕ → Type 0
-Holds m words = LaidOut words × (stored words ≡ m)
 
 -- the strike that a record proposes, if it is none of a maker and no remark
 abbrev pub strike_of : Record → Option Strike

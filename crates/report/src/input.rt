@@ -3,8 +3,9 @@ ghost use Rattle.std.specs.Prelude.{◌≡◌, length, IfOk, replicate, vec_len}
 ghost use Rattle.std.specs.Result.{result_err};
 ghost use Rattle.files.specs.Sequence.{number_at};
 ghost use Rattle.files.specs.SystemFile.{described, file_read};
+ghost use Rattle.files.specs.Words.{Holds};
 ghost use Rattle.report.specs.Answer.{Unless, UnlessFault, WantsMemory};
-ghost use Rattle.report.specs.Input.{Holds, IsRead, early_fault, input_fault, length_fault, old_place, system_fault, system_room, tolerance, tolerance_fault};
+ghost use Rattle.report.specs.Input.{IsRead, early_fault, input_fault, length_fault, old_place, system_fault, system_room, tolerance, tolerance_fault};
 
 use crate::error::ReportError;
 use crate::fault::{InputFault, InputReason};

@@ -1,6 +1,7 @@
 use Rattle.std.proofs.Common.{rules, refl, ◌∙◌}
 use Rattle.docket.specs.Position.{position}
-use Rattle.report.proofs.Told.{decided_of, exchange_is, stored_is, told_of}
+use Rattle.files.proofs.Held.{stored_is}
+use Rattle.report.proofs.Told.{decided_of, exchange_is, told_of}
 use Rattle.report.proofs.deciding.decide.Goals as goal
 
 pub returns : goal.returns

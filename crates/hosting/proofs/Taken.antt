@@ -1,0 +1,133 @@
+-- Two files that are taken for an exchange.
+use Rattle.std.proofs.Common.{◌≡◌, ℕ, ◌*◌, ◌<◌, ◌≤◌, Bool, true, false, cond, not, eqb, leb, ltb, ◌&&◌, ◌||◌, List, length, Some, None, Ok, Err, Option, Result, refl, sym, ap, ◌∙◌, arith}
+use Rattle.std.proofs.lemmas.Bool.{and_from, le-ltb}
+use Rattle.std.proofs.lemmas.Bool.Decides.{nat_tests}
+use Rattle.systems.specs.Meaning.{Meaning, Reading}
+use Rattle.systems.specs.Bounded.{or_else}
+use Rattle.systems.specs.Layout.{stored, stored_words}
+use Rattle.systems.proofs.Bounded.{all_below_from, or_else_none}
+use Rattle.likeness.specs.Within.{first_too_wide, within}
+use Rattle.std.specs.Prelude.{IfOk, option_map}
+use Rattle.arena.specs.Arena.{Arena}
+use Rattle.arena.specs.Exchange.{exchange}
+use Rattle.docket.specs.Certificate.{Certifies, certificate_says}
+use Rattle.docket.specs.Judge.{judge_does, judge_says, outcome_of}
+use Rattle.docket.specs.Position.{closed, position}
+use Rattle.docket.specs.Refusals.{few_moves, if_granted, opening_refusal, unless}
+use Rattle.docket.specs.declared.certificate.Certificate.{Certificate}
+use Rattle.docket.specs.declared.certificate.CertificateFault.{CertificateFault}
+use Rattle.docket.specs.declared.refusal.Refusal.{Refusal}
+use Rattle.docket.specs.declared.refusal.Refusal.TheVariants.{NotComparable, TableTooShort}
+use Rattle.ranking.specs.Rank.{highest, ranked}
+use Rattle.ranking.specs.Rank.{left_by as rank_left_by, rank_does as table_rank_does, rank_says as table_rank_says}
+use Rattle.files.specs.Few.{Few}
+use Rattle.files.specs.SystemFile.{described, file_fault}
+use Rattle.files.specs.Words.{Holds}
+use Rattle.files.proofs.Held.{stored_is}
+use Rattle.hosting.specs.Calls.{check_says, check_says_by, decide_does, decide_says, decided, of_table, rank_does, rank_says}
+use Rattle.hosting.specs.Files.{Room, Shows, filed, files_fault, left_by}
+use Rattle.hosting.specs.declared.fault.FilesFault.TheVariants.{Tolerance, OldFile, NewFile, Exchange}
+use Rattle.hosting.specs.declared.filed.FiledExchange.{FiledExchange}
+
+-- a system that is small enough for a file has few moves
+few_moves_of : (m : Meaning) → Few m → few_moves m.states m.controller_moves m.environment_moves ≡ true
+few_moves_of m few =
+    all_below_from m.states (λ w. leb (m.controller_moves w) 16 && leb (m.environment_moves w) 16)
+    (λ w l.
+    let p = few.few_controller_moves w l in
+    let q = few.few_environment_moves w l in
+    grind (arith, nat_tests))
+
+-- an opening for two such systems is refused only for their channels, or for a table that is too short
+opening_of_files : (old new : Meaning) (relation : ℕ → Reading → Reading → Bool) (entries : ℕ) → Few old → Few new
+    → opening_refusal (exchange old new relation) entries
+    ≡ cond (not (eqb old.channels new.channels)) (Some NotComparable) (cond (ltb entries (old.states * new.states)) (Some TableTooShort) None)
+opening_of_files old new relation entries o n =
+    let few_old = few_moves_of old o in
+    let few_new = few_moves_of new n in
+    let a = o.few_states in
+    let b = n.few_states in
+    let c = o.few_channels in
+    rw (le-ltb 256 old.states a, le-ltb 256 new.states b, few_old, few_new) (grind (arith, nat_tests))
+
+-- and so by its cases
+module _ (old new : Meaning) (relation : ℕ → Reading → Reading → Bool) (entries : ℕ) (o : Few old) (n : Few new) where
+  pub opening_refused_for_channels : (old.channels ≡ new.channels → ⊥) → opening_refusal (exchange old new relation) entries ≡ Some NotComparable
+  opening_refused_for_channels differ = opening_of_files old new relation entries o n ∙ grind (arith, nat_tests)
+
+  pub opening_refused_for_table : old.channels ≡ new.channels → entries < old.states * new.states → opening_refusal (exchange old new relation) entries ≡ Some TableTooShort
+  opening_refused_for_table same short = opening_of_files old new relation entries o n ∙ grind (arith, nat_tests)
+
+  pub opening_granted : old.channels ≡ new.channels → old.states * new.states ≤ entries → opening_refusal (exchange old new relation) entries ≡ None
+  opening_granted same enough = opening_of_files old new relation entries o n ∙ grind (arith, nat_tests)
+
+-- where the tolerances and both files have no fault, the fault is that of an opening
+pub fault_together : (e : FiledExchange) (lent : Room) → first_too_wide e.tolerances ≡ None → file_fault e.old_file.now 0 lent.old_words ≡ None → file_fault e.new_file.now 0 lent.new_words ≡ None
+    → files_fault e lent ≡ option_map (λ refusal. Exchange refusal) (opening_refusal (filed e) lent.entries)
+fault_together e lent t o n = rw (t, o, n) refl
+
+-- the systems that the words hold, with the likeness, make the exchange of the files
+exchange_of : (e : FiledExchange) (old new : Meaning) (tolerances : List ℕ) → old ≡ described e.old_file.now 0 → new ≡ described e.new_file.now 0 → tolerances ≡ e.tolerances → exchange old new (within tolerances) ≡ filed e
+exchange_of e old new tolerances o n t = rw (o, n, t) refl
+
+pub exchange_is : (e : FiledExchange) (old_words new_words old_kept new_kept tolerances : List ℕ) → Holds (described e.old_file.now 0) old_words → Holds (described e.new_file.now 0) new_words
+    → old_kept ≡ stored_words old_words → new_kept ≡ stored_words new_words → tolerances ≡ e.tolerances
+    → exchange (stored old_kept) (stored new_kept) (within tolerances) ≡ filed e
+exchange_is e old_words new_words old_kept new_kept tolerances old new o n t =
+    exchange_of e (stored old_kept) (stored new_kept) tolerances
+    (stored_is (described e.old_file.now 0) old_words old_words old_kept old refl o)
+    (stored_is (described e.new_file.now 0) new_words new_words new_kept new refl n)
+    t
+
+-- files without a fault open
+pub opens : (e : FiledExchange) (lent : Room) → files_fault e lent ≡ None → opening_refusal (filed e) lent.entries ≡ None
+opens e lent none =
+    let tolerances = option_map (λ channel. Tolerance channel) (first_too_wide e.tolerances) in
+    let old = option_map (λ fault. OldFile fault) (file_fault e.old_file.now 0 lent.old_words) in
+    let new = option_map (λ fault. NewFile fault) (file_fault e.new_file.now 0 lent.new_words) in
+    let together = option_map (λ refusal. Exchange refusal) (opening_refusal (filed e) lent.entries) in
+    let first = or_else_none tolerances (or_else old (or_else new together)) none in
+    let second = or_else_none old (or_else new together) first.1 in
+    let third = or_else_none new together second.1 in
+    unmapped (opening_refusal (filed e) lent.entries) third.1
+    where
+      unmapped : (o : Option Refusal) → option_map (λ refusal. Exchange refusal) o ≡ None → o ≡ None
+      unmapped None h = refl
+      unmapped (Some refusal) h = cc
+
+-- what the calls answer and leave where the files have no fault
+module _ (e : FiledExchange) (lent : Room) (table : List ℕ) (none : files_fault e lent ≡ None) (long : lent.entries ≡ length table) (A : Arena) (is : A ≡ filed e) where
+  pub open_here : opening_refusal A (length table) ≡ None
+  open_here = ap (λ k. opening_refusal A k) (sym long) ∙ ap (λ B. opening_refusal B lent.entries) is ∙ opens e lent none
+
+  pub judged_says : judge_says A (position closed table) ≡ Ok (outcome_of (filed e) (decided (filed e) table))
+  judged_says = ap (λ o. unless o (outcome_of A (decided A table))) open_here ∙ ap (λ B. Ok (outcome_of B (decided B table))) is
+
+  pub judged_table : (judge_does A (position closed table)).table ≡ decide_does e lent table
+  judged_table =
+      ap (λ o. (if_granted o (decided A table).position (position closed table)).table) open_here
+      ∙ ap (λ B. (decided B table).position.table) is
+      ∙ sym (ap (λ o. left_by o (decided (filed e) table).position.table table) none)
+
+  pub decided_says : decide_says e lent table ≡ Ok (outcome_of (filed e) (decided (filed e) table))
+  decided_says = ap (λ o. unless o (outcome_of (filed e) (decided (filed e) table))) none
+
+  pub ranked_says : table_rank_says A table ≡ Ok (highest (filed e) (ranked (filed e) table))
+  ranked_says = ap (λ o. unless o (highest A (ranked A table))) open_here ∙ ap (λ B. Ok (highest B (ranked B table))) is
+
+  pub rank_said : rank_says e lent table ≡ Ok (highest (filed e) (ranked (filed e) table))
+  rank_said = ap (λ o. unless o (highest (filed e) (ranked (filed e) table))) none
+
+  pub ranked_table : table_rank_does A table ≡ rank_does e lent table
+  ranked_table =
+      ap (λ o. rank_left_by o (ranked A table) table) open_here
+      ∙ ap (λ B. ranked B table) is
+      ∙ sym (ap (λ o. left_by o (ranked (filed e) table) table) none)
+
+  pub checked_says : of_table (certificate_says A table) ≡ check_says e lent table
+  checked_says = ap (λ B. of_table (certificate_says B table)) is ∙ sym (ap (λ o. check_says_by o (certificate_says (filed e) table)) none)
+
+-- what an accepted table shows
+pub accepted_shows : (A : Arena) (table : List ℕ) (found : Result Certificate CertificateFault) → Certifies A table found → IfOk (of_table found) (λ c. Shows A table c.replaces)
+accepted_shows A table (Ok c) law = law
+accepted_shows A table (Err fault) law = tt

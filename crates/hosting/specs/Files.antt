@@ -1,0 +1,49 @@
+-- The exchange of the systems that two files describe.
+use Rattle.std.specs.Prelude.{ℕ, Bool, List, Some, None, Decides, Option, option_map}
+use Rattle.systems.specs.Bounded.{or_else}
+use Rattle.likeness.specs.Within.{first_too_wide, within}
+use Rattle.arena.specs.Arena.{Arena}
+use Rattle.arena.specs.Exchange.{exchange}
+use Rattle.arena.specs.Pairs.{Largest, Replaces}
+use Rattle.arena.specs.Table.{standing}
+use Rattle.docket.specs.Refusals.{opening_refusal}
+use Rattle.files.specs.SystemFile.{described, file_fault}
+use Rattle.files.specs.Words.{put_at, system_words}
+use Rattle.hosting.specs.declared.fault.FilesFault.{FilesFault}
+use Rattle.hosting.specs.declared.fault.FilesFault.TheVariants.{Tolerance, OldFile, NewFile, Exchange}
+use Rattle.hosting.specs.declared.filed.FiledExchange.{FiledExchange}
+
+-- How many words are lent for each system, and how many entries.
+pub record Room : Type 0 where
+  pub old_words : ℕ
+  pub new_words : ℕ
+  pub entries : ℕ
+
+-- that many
+abbrev pub room : ℕ → ℕ → ℕ → Room
+room old_words new_words entries = record { old_words = old_words; new_words = new_words; entries = entries }
+
+-- the exchange: the systems of the two files, and the tolerances of the channels
+abbrev pub filed : FiledExchange → Arena
+filed e = exchange (described e.old_file.now 0) (described e.new_file.now 0) (within e.tolerances)
+
+-- the first fault of the files and of what is lent with them: of the tolerances, of the old file, of the new file, or of an opening
+abbrev pub files_fault : FiledExchange → Room → Option FilesFault
+files_fault e room =
+    or_else (option_map (λ channel. Tolerance channel) (first_too_wide e.tolerances))
+    (or_else (option_map (λ fault. OldFile fault) (file_fault e.old_file.now 0 room.old_words))
+    (or_else (option_map (λ fault. NewFile fault) (file_fault e.new_file.now 0 room.new_words))
+    (option_map (λ refusal. Exchange refusal) (opening_refusal (filed e) room.entries))))
+
+-- the words that are lent for a file, once its system is laid out in front
+abbrev pub laid_out : List ℕ → List ℕ → List ℕ
+laid_out bytes words = put_at words 0 (system_words (described bytes 0))
+
+-- what a call leaves in memory: where there is a fault, what was there
+abbrev pub left_by : Option FilesFault → List ℕ → List ℕ → List ℕ
+left_by (Some fault) after before = before
+left_by None after before = after
+
+-- the standing pairs of a table are the largest simulation, and the new system replaces the old or does not, as is told
+abbrev pub Shows : Arena → List ℕ → Bool → Type 0
+Shows A table replaces = Largest A (standing A table) × Decides replaces (Replaces A)

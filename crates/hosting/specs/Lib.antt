@@ -1,0 +1,4 @@
+pub mod Calls
+pub mod Fault
+pub mod Files
+pub mod Tested

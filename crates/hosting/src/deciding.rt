@@ -1,0 +1,38 @@
+//! Deciding the exchange of two files.
+ghost use Rattle.std.specs.Prelude.{◌≡◌, length, IfOk};
+ghost use Rattle.hosting.specs.Calls.{decide_does, decide_says};
+ghost use Rattle.hosting.specs.Files.{Shows, filed, files_fault, laid_out, left_by, room};
+
+use crate::fault::FilesFault;
+use crate::filed::FiledExchange;
+use arena::Exchange;
+use docket::{Docket, Outcome};
+use systems::Stored;
+
+impl FiledExchange<'_> {
+    /// Decides whether the new system replaces the old: lays both out in the words that are lent for them, opens a docket on the table, sweeps until a sweep makes no strike, and settles.
+    ///
+    /// A refused call changes nothing. A granted one leaves words behind the systems, and entries behind those of the pairs, as they were.
+    pub fn decide(
+        &self,
+        old_words: &mut [u16],
+        new_words: &mut [u16],
+        table: &mut [u32],
+    ) -> Result<Outcome, FilesFault>
+        ensures answer { result ≡ decide_says self.now (room (length old_words.old) (length new_words.old) (length table.old)) table.old }
+        ensures table { table.new ≡ decide_does self.now (room (length old_words.old) (length new_words.old) (length table.old)) table.old }
+        ensures old { old_words.new ≡ left_by (files_fault self.now (room (length old_words.old) (length new_words.old) (length table.old))) (laid_out self.now.old_file.now old_words.old) old_words.old }
+        ensures new { new_words.new ≡ left_by (files_fault self.now (room (length old_words.old) (length new_words.old) (length table.old))) (laid_out self.now.new_file.now new_words.old) new_words.old }
+        ensures law { IfOk result (λ outcome. Shows (filed self.now) table.new outcome.replaces) }
+    {
+        let likeness = self.take_in(old_words, new_words, table.len())?;
+        let exchange = Exchange {
+            old: &Stored::new(old_words),
+            new: &Stored::new(new_words),
+            likeness: &likeness,
+        };
+        Docket::new()
+            .judge(&exchange, table)
+            .map_err(FilesFault::Exchange)
+    }
+}

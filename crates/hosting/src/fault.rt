@@ -1,0 +1,72 @@
+//! Why two files, or what is lent with them, are refused.
+ghost use Rattle.std.specs.Prelude.{◌≡◌};
+ghost use Rattle.hosting.specs.declared.fault.CheckFault.TheVariants.{Files};
+ghost use Rattle.hosting.specs.declared.fault.FilesFault.TheVariants.{Exchange};
+ghost use Rattle.hosting.specs.Fault.{check_fault_number, files_fault_number};
+
+use docket::{CertificateFault, Refusal};
+use files::ReadFault;
+use likeness::ToleranceFault;
+
+/// Why two files, or what is lent with them, do not serve.
+#[derive(Clone, Copy, Debug, PartialEq, Eq)]
+pub enum FilesFault {
+    /// The tolerance of this channel is too wide, and of none before it.
+    Tolerance(usize),
+    /// The file of the old system has this fault.
+    OldFile(ReadFault),
+    /// The file of the new system has this fault.
+    NewFile(ReadFault),
+    /// The two systems do not serve together, or the table does not.
+    Exchange(Refusal),
+}
+
+impl FilesFault {
+    /// The number of the refusal.
+    pub fn number(&self) -> u8
+        ensures { result ≡ files_fault_number self.now }
+    {
+        match self {
+            FilesFault::Tolerance(_) => ToleranceFault::TooWide as u8,
+            FilesFault::OldFile(fault) | FilesFault::NewFile(fault) => fault.reason.number(),
+            FilesFault::Exchange(refusal) => refusal.number(),
+        }
+    }
+}
+
+impl From<Refusal> for FilesFault {
+    ghost from_gives = { λ refusal r. r ≡ Exchange refusal };
+
+    fn from(refusal: Refusal) -> FilesFault {
+        FilesFault::Exchange(refusal)
+    }
+}
+
+/// Why a table is no certificate of the exchange of two files.
+#[derive(Clone, Copy, Debug, PartialEq, Eq)]
+pub enum CheckFault {
+    /// The files, or what is lent with them, do not serve.
+    Files(FilesFault),
+    /// The table is no certificate.
+    Table(CertificateFault),
+}
+
+impl CheckFault {
+    /// The number of the fault.
+    pub fn number(&self) -> u8
+        ensures { result ≡ check_fault_number self.now }
+    {
+        match self {
+            CheckFault::Files(fault) => fault.number(),
+            CheckFault::Table(fault) => fault.number(),
+        }
+    }
+}
+
+impl From<FilesFault> for CheckFault {
+    ghost from_gives = { λ fault r. r ≡ Files fault };
+
+    fn from(fault: FilesFault) -> CheckFault {
+        CheckFault::Files(fault)
+    }
+}

@@ -1,0 +1,37 @@
+//! Ranking the pairs of the exchange of two files.
+ghost use Rattle.std.specs.Prelude.{◌≡◌, length, IfOk};
+ghost use Rattle.ranking.specs.Rank.{RanksRight};
+ghost use Rattle.hosting.specs.Calls.{rank_does, rank_says};
+ghost use Rattle.hosting.specs.Files.{filed, files_fault, laid_out, left_by, room};
+
+use crate::fault::FilesFault;
+use crate::filed::FiledExchange;
+use arena::Exchange;
+use ranking::rank;
+use systems::Stored;
+
+impl FiledExchange<'_> {
+    /// Writes every pair's rank into the table, and answers the highest: lays both systems out in the words that are lent for them first.
+    ///
+    /// A refused call changes nothing. A granted one leaves words behind the systems, and entries behind those of the pairs, as they were.
+    pub fn rank(
+        &self,
+        old_words: &mut [u16],
+        new_words: &mut [u16],
+        table: &mut [u32],
+    ) -> Result<u32, FilesFault>
+        ensures answer { result ≡ rank_says self.now (room (length old_words.old) (length new_words.old) (length table.old)) table.old }
+        ensures table { table.new ≡ rank_does self.now (room (length old_words.old) (length new_words.old) (length table.old)) table.old }
+        ensures old { old_words.new ≡ left_by (files_fault self.now (room (length old_words.old) (length new_words.old) (length table.old))) (laid_out self.now.old_file.now old_words.old) old_words.old }
+        ensures new { new_words.new ≡ left_by (files_fault self.now (room (length old_words.old) (length new_words.old) (length table.old))) (laid_out self.now.new_file.now new_words.old) new_words.old }
+        ensures law { IfOk result (λ _. RanksRight (filed self.now) table.old table.new) }
+    {
+        let likeness = self.take_in(old_words, new_words, table.len())?;
+        let exchange = Exchange {
+            old: &Stored::new(old_words),
+            new: &Stored::new(new_words),
+            likeness: &likeness,
+        };
+        rank(&exchange, table).map_err(FilesFault::Exchange)
+    }
+}
