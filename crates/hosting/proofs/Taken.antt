@@ -25,9 +25,8 @@ use Rattle.files.specs.SystemFile.{described, file_fault}
 use Rattle.files.specs.Words.{Holds}
 use Rattle.files.proofs.Held.{stored_is}
 use Rattle.hosting.specs.Calls.{check_says, check_says_by, decide_does, decide_says, decided, of_table, rank_does, rank_says}
-use Rattle.hosting.specs.Files.{Room, Shows, filed, files_fault, left_by}
+use Rattle.hosting.specs.Files.{Lent, Room, Shows, filed, files_fault, left_by}
 use Rattle.hosting.specs.declared.fault.FilesFault.TheVariants.{Tolerance, OldFile, NewFile, Exchange}
-use Rattle.hosting.specs.declared.filed.FiledExchange.{FiledExchange}
 
 -- a system that is small enough for a file has few moves
 few_moves_of : (m : Meaning) → Few m → few_moves m.states m.controller_moves m.environment_moves ≡ true
@@ -62,29 +61,29 @@ module _ (old new : Meaning) (relation : ℕ → Reading → Reading → Bool) (
   opening_granted same enough = opening_of_files old new relation entries o n ∙ grind (arith, nat_tests)
 
 -- where the tolerances and both files have no fault, the fault is that of an opening
-pub fault_together : (e : FiledExchange) (lent : Room) → first_too_wide e.tolerances ≡ None → file_fault e.old_file.now 0 lent.old_words ≡ None → file_fault e.new_file.now 0 lent.new_words ≡ None
+pub fault_together : (e : Lent) (lent : Room) → first_too_wide e.tolerances ≡ None → file_fault e.old_file 0 lent.old_words ≡ None → file_fault e.new_file 0 lent.new_words ≡ None
     → files_fault e lent ≡ option_map (λ refusal. Exchange refusal) (opening_refusal (filed e) lent.entries)
 fault_together e lent t o n = rw (t, o, n) refl
 
 -- the systems that the words hold, with the likeness, make the exchange of the files
-exchange_of : (e : FiledExchange) (old new : Meaning) (tolerances : List ℕ) → old ≡ described e.old_file.now 0 → new ≡ described e.new_file.now 0 → tolerances ≡ e.tolerances → exchange old new (within tolerances) ≡ filed e
+exchange_of : (e : Lent) (old new : Meaning) (tolerances : List ℕ) → old ≡ described e.old_file 0 → new ≡ described e.new_file 0 → tolerances ≡ e.tolerances → exchange old new (within tolerances) ≡ filed e
 exchange_of e old new tolerances o n t = rw (o, n, t) refl
 
-pub exchange_is : (e : FiledExchange) (old_words new_words old_kept new_kept tolerances : List ℕ) → Holds (described e.old_file.now 0) old_words → Holds (described e.new_file.now 0) new_words
+pub exchange_is : (e : Lent) (old_words new_words old_kept new_kept tolerances : List ℕ) → Holds (described e.old_file 0) old_words → Holds (described e.new_file 0) new_words
     → old_kept ≡ stored_words old_words → new_kept ≡ stored_words new_words → tolerances ≡ e.tolerances
     → exchange (stored old_kept) (stored new_kept) (within tolerances) ≡ filed e
 exchange_is e old_words new_words old_kept new_kept tolerances old new o n t =
     exchange_of e (stored old_kept) (stored new_kept) tolerances
-    (stored_is (described e.old_file.now 0) old_words old_words old_kept old refl o)
-    (stored_is (described e.new_file.now 0) new_words new_words new_kept new refl n)
+    (stored_is (described e.old_file 0) old_words old_words old_kept old refl o)
+    (stored_is (described e.new_file 0) new_words new_words new_kept new refl n)
     t
 
 -- files without a fault open
-pub opens : (e : FiledExchange) (lent : Room) → files_fault e lent ≡ None → opening_refusal (filed e) lent.entries ≡ None
+pub opens : (e : Lent) (lent : Room) → files_fault e lent ≡ None → opening_refusal (filed e) lent.entries ≡ None
 opens e lent none =
     let tolerances = option_map (λ channel. Tolerance channel) (first_too_wide e.tolerances) in
-    let old = option_map (λ fault. OldFile fault) (file_fault e.old_file.now 0 lent.old_words) in
-    let new = option_map (λ fault. NewFile fault) (file_fault e.new_file.now 0 lent.new_words) in
+    let old = option_map (λ fault. OldFile fault) (file_fault e.old_file 0 lent.old_words) in
+    let new = option_map (λ fault. NewFile fault) (file_fault e.new_file 0 lent.new_words) in
     let together = option_map (λ refusal. Exchange refusal) (opening_refusal (filed e) lent.entries) in
     let first = or_else_none tolerances (or_else old (or_else new together)) none in
     let second = or_else_none old (or_else new together) first.1 in
@@ -96,7 +95,7 @@ opens e lent none =
       unmapped (Some refusal) h = cc
 
 -- what the calls answer and leave where the files have no fault
-module _ (e : FiledExchange) (lent : Room) (table : List ℕ) (none : files_fault e lent ≡ None) (long : lent.entries ≡ length table) (A : Arena) (is : A ≡ filed e) where
+module _ (e : Lent) (lent : Room) (table : List ℕ) (none : files_fault e lent ≡ None) (long : lent.entries ≡ length table) (A : Arena) (is : A ≡ filed e) where
   pub open_here : opening_refusal A (length table) ≡ None
   open_here = ap (λ k. opening_refusal A k) (sym long) ∙ ap (λ B. opening_refusal B lent.entries) is ∙ opens e lent none
 

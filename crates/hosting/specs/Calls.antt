@@ -11,22 +11,21 @@ use Rattle.docket.specs.declared.certificate.Certificate.{Certificate}
 use Rattle.docket.specs.declared.certificate.CertificateFault.{CertificateFault}
 use Rattle.docket.specs.declared.outcome.Outcome.{Outcome}
 use Rattle.ranking.specs.Rank.{highest, ranked}
-use Rattle.hosting.specs.Files.{Room, filed, files_fault, left_by}
+use Rattle.hosting.specs.Files.{Lent, Room, filed, files_fault, left_by}
 use Rattle.hosting.specs.declared.fault.CheckFault.{CheckFault}
 use Rattle.hosting.specs.declared.fault.CheckFault.TheVariants.{Files, Table}
 use Rattle.hosting.specs.declared.fault.FilesFault.{FilesFault}
-use Rattle.hosting.specs.declared.filed.FiledExchange.{FiledExchange}
 
 -- where a decision of a new docket leads, and the strikes of its sweeps
 abbrev pub decided : Arena → List ℕ → Swept
 decided A table = decision A (position closed table) []
 
 -- what a decision answers
-abbrev pub decide_says : FiledExchange → Room → List ℕ → Result Outcome FilesFault
+abbrev pub decide_says : Lent → Room → List ℕ → Result Outcome FilesFault
 decide_says e lent table = unless (files_fault e lent) (outcome_of (filed e) (decided (filed e) table))
 
 -- the table that it leaves
-abbrev pub decide_does : FiledExchange → Room → List ℕ → List ℕ
+abbrev pub decide_does : Lent → Room → List ℕ → List ℕ
 decide_does e lent table = left_by (files_fault e lent) (decided (filed e) table).position.table table
 
 -- the fault of a table as that of a check
@@ -40,13 +39,13 @@ check_says_by (Some fault) found = Err (Files fault)
 check_says_by None found = of_table found
 
 -- what a certificate check answers
-abbrev pub check_says : FiledExchange → Room → List ℕ → Result Certificate CheckFault
+abbrev pub check_says : Lent → Room → List ℕ → Result Certificate CheckFault
 check_says e lent table = check_says_by (files_fault e lent) (certificate_says (filed e) table)
 
 -- what a ranking answers: the highest rank
-abbrev pub rank_says : FiledExchange → Room → List ℕ → Result ℕ FilesFault
+abbrev pub rank_says : Lent → Room → List ℕ → Result ℕ FilesFault
 rank_says e lent table = unless (files_fault e lent) (highest (filed e) (ranked (filed e) table))
 
 -- the table that it leaves
-abbrev pub rank_does : FiledExchange → Room → List ℕ → List ℕ
+abbrev pub rank_does : Lent → Room → List ℕ → List ℕ
 rank_does e lent table = left_by (files_fault e lent) (ranked (filed e) table) table

@@ -1,7 +1,7 @@
 //! Deciding the exchange of two files.
 ghost use Rattle.std.specs.Prelude.{◌≡◌, length, IfOk};
 ghost use Rattle.hosting.specs.Calls.{decide_does, decide_says};
-ghost use Rattle.hosting.specs.Files.{Shows, filed, files_fault, laid_out, left_by, room};
+ghost use Rattle.hosting.specs.Files.{Shows, filed, files_fault, laid_out, left_by, lent_by, room};
 
 use crate::fault::FilesFault;
 use crate::filed::FiledExchange;
@@ -19,11 +19,11 @@ impl FiledExchange<'_> {
         new_words: &mut [u16],
         table: &mut [u32],
     ) -> Result<Outcome, FilesFault>
-        ensures answer { result ≡ decide_says self.now (room (length old_words.old) (length new_words.old) (length table.old)) table.old }
-        ensures table { table.new ≡ decide_does self.now (room (length old_words.old) (length new_words.old) (length table.old)) table.old }
-        ensures old { old_words.new ≡ left_by (files_fault self.now (room (length old_words.old) (length new_words.old) (length table.old))) (laid_out self.now.old_file.now old_words.old) old_words.old }
-        ensures new { new_words.new ≡ left_by (files_fault self.now (room (length old_words.old) (length new_words.old) (length table.old))) (laid_out self.now.new_file.now new_words.old) new_words.old }
-        ensures law { IfOk result (λ outcome. Shows (filed self.now) table.new outcome.replaces) }
+        ensures answer { result ≡ decide_says (lent_by self.now) (room (length old_words.old) (length new_words.old) (length table.old)) table.old }
+        ensures table { table.new ≡ decide_does (lent_by self.now) (room (length old_words.old) (length new_words.old) (length table.old)) table.old }
+        ensures old { old_words.new ≡ left_by (files_fault (lent_by self.now) (room (length old_words.old) (length new_words.old) (length table.old))) (laid_out self.now.old_file.now old_words.old) old_words.old }
+        ensures new { new_words.new ≡ left_by (files_fault (lent_by self.now) (room (length old_words.old) (length new_words.old) (length table.old))) (laid_out self.now.new_file.now new_words.old) new_words.old }
+        ensures law { IfOk result (λ outcome. Shows (filed (lent_by self.now)) table.new outcome.replaces) }
     {
         let likeness = self.take_in(old_words, new_words, table.len())?;
         let exchange = Exchange {

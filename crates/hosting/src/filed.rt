@@ -9,7 +9,7 @@ ghost use Rattle.files.specs.Words.{Holds};
 ghost use Rattle.likeness.specs.Within.{first_too_wide};
 ghost use Rattle.hosting.specs.declared.fault.FilesFault.TheVariants.{Tolerance};
 ghost use Rattle.hosting.specs.Tested.{IsTested};
-ghost use Rattle.hosting.specs.Files.{files_fault, laid_out, left_by, room};
+ghost use Rattle.hosting.specs.Files.{files_fault, laid_out, left_by, lent_by, room};
 
 
 use crate::fault::FilesFault;
@@ -84,7 +84,7 @@ impl<'a> FiledExchange<'a> {
 
     /// Tests the tolerances, the files, and whether they serve together.
     fn test(&self, old_words: usize, new_words: usize, entries: usize) -> Result<Tested<'a>, FilesFault>
-        ensures answer { MatchResult result (λ _. files_fault self.now (room old_words new_words entries) ≡ None) (λ fault. files_fault self.now (room old_words new_words entries) ≡ Some fault) }
+        ensures answer { MatchResult result (λ _. files_fault (lent_by self.now) (room old_words new_words entries) ≡ None) (λ fault. files_fault (lent_by self.now) (room old_words new_words entries) ≡ Some fault) }
         ensures tested { IfOk result (λ tested. IsTested self.now old_words new_words tested) }
     {
         let likeness = self.likeness()?;
@@ -103,10 +103,10 @@ impl<'a> FiledExchange<'a> {
         new_words: &mut [u16],
         entries: usize,
     ) -> Result<Within, FilesFault>
-        ensures answer { MatchResult result (λ _. files_fault self.now (room (length old_words.old) (length new_words.old) entries) ≡ None) (λ fault. files_fault self.now (room (length old_words.old) (length new_words.old) entries) ≡ Some fault) }
+        ensures answer { MatchResult result (λ _. files_fault (lent_by self.now) (room (length old_words.old) (length new_words.old) entries) ≡ None) (λ fault. files_fault (lent_by self.now) (room (length old_words.old) (length new_words.old) entries) ≡ Some fault) }
         ensures likeness { IfOk result (λ within. within.tolerances ≡ self.now.tolerances) }
-        ensures old { old_words.new ≡ left_by (files_fault self.now (room (length old_words.old) (length new_words.old) entries)) (laid_out self.now.old_file.now old_words.old) old_words.old }
-        ensures new { new_words.new ≡ left_by (files_fault self.now (room (length old_words.old) (length new_words.old) entries)) (laid_out self.now.new_file.now new_words.old) new_words.old }
+        ensures old { old_words.new ≡ left_by (files_fault (lent_by self.now) (room (length old_words.old) (length new_words.old) entries)) (laid_out self.now.old_file.now old_words.old) old_words.old }
+        ensures new { new_words.new ≡ left_by (files_fault (lent_by self.now) (room (length old_words.old) (length new_words.old) entries)) (laid_out self.now.new_file.now new_words.old) new_words.old }
         ensures old_held { OnOk result (Holds (described self.now.old_file.now 0) old_words.new) }
         ensures new_held { OnOk result (Holds (described self.now.new_file.now 0) new_words.new) }
     {

@@ -1,0 +1,102 @@
+-- The answers that cross to C.
+use Rattle.std.specs.Prelude.{ℕ, Bool, false, Ok, Err, Result}
+use Rattle.docket.specs.Certificate.{fault_number}
+use Rattle.docket.specs.Refusals.{refusal_number}
+use Rattle.docket.specs.declared.certificate.Certificate.{Certificate as Shown}
+use Rattle.docket.specs.declared.certificate.CertificateFault.{CertificateFault}
+use Rattle.docket.specs.declared.certificate.CertificateFault.TheVariants.{Refused, Unfounded, Loose}
+use Rattle.docket.specs.declared.outcome.Outcome.{Outcome}
+use Rattle.files.specs.Refusal.{refusal}
+use Rattle.files.specs.declared.fault.ReadFault.{ReadFault}
+use Rattle.files.specs.declared.system_read.SystemRead.{SystemRead}
+use Rattle.files.specs.declared.system_write.SystemWriteFault.{SystemWriteFault}
+use Rattle.files.specs.declared.system_write.SystemWriteFault.TheVariants.{States, Channels, Moves, TooFewBytes}
+use Rattle.hosting.specs.declared.fault.CheckFault.{CheckFault}
+use Rattle.hosting.specs.declared.fault.CheckFault.TheVariants.{Files, Table}
+use Rattle.hosting.specs.declared.fault.FilesFault.{FilesFault}
+use Rattle.hosting.specs.declared.fault.FilesFault.TheVariants.{Tolerance, OldFile, NewFile, Exchange}
+use Rattle.host.specs.declared.answer.Certificate.{Certificate}
+use Rattle.host.specs.declared.answer.Decision.{Decision}
+use Rattle.host.specs.declared.answer.Ranks.{Ranks}
+use Rattle.host.specs.declared.answer.Read.{Read}
+use Rattle.host.specs.declared.refusal.Refusal.{Refusal}
+use Rattle.host.specs.declared.answer.Written.{Written}
+use Rattle.host.specs.declared.item.Item.{Item}
+use Rattle.host.specs.declared.item.Item.TheVariants.{Nothing, Tolerances, OldFile as OldItem, NewFile as NewItem, Exchange as Together, Pair, File, System}
+
+-- the number that stands for an item in C
+abbrev pub item_number : Item → ℕ
+item_number Nothing = 0
+item_number Tolerances = 1
+item_number OldItem = 2
+item_number NewItem = 3
+item_number Together = 4
+item_number Pair = 5
+item_number File = 6
+item_number System = 7
+
+-- a refusal that is about an item
+abbrev pub about : Item → ℕ → Refusal
+about item number = record { number = number; item = item_number item; state = 0; new_state = 0; place = 0 }
+
+-- no refusal
+abbrev pub granted : Refusal
+granted = about Nothing 0
+
+-- the fault of a file: which number of which state's row, and why
+abbrev pub file_refusal : Item → ReadFault → Refusal
+file_refusal item fault = record { number = refusal fault.reason; item = item_number item; state = fault.state; new_state = 0; place = fault.place }
+
+-- the refusal of two files and what is lent with them; that of a tolerance is placed at its channel
+abbrev pub files_refusal : FilesFault → Refusal
+files_refusal (Tolerance channel) = record { number = 27; item = item_number Tolerances; state = 0; new_state = 0; place = channel }
+files_refusal (OldFile fault) = file_refusal OldItem fault
+files_refusal (NewFile fault) = file_refusal NewItem fault
+files_refusal (Exchange why) = about Together (refusal_number why)
+
+-- a pair out of order
+abbrev pub pair_refusal : ℕ → ℕ × ℕ → Refusal
+pair_refusal number pair = record { number = number; item = item_number Pair; state = pair.0; new_state = pair.1; place = 0 }
+
+-- the fault of a table
+abbrev pub table_refusal : CertificateFault → Refusal
+table_refusal (Refused why) = about Together (refusal_number why)
+table_refusal (Unfounded pair) = pair_refusal 13 pair
+table_refusal (Loose pair) = pair_refusal 14 pair
+
+-- the refusal of a certificate check
+abbrev pub check_refusal : CheckFault → Refusal
+check_refusal (Files fault) = files_refusal fault
+check_refusal (Table fault) = table_refusal fault
+
+-- the number of each reason not to write a system
+abbrev pub write_number : SystemWriteFault → ℕ
+write_number States = 18
+write_number Channels = 19
+write_number Moves = 21
+write_number TooFewBytes = 23
+
+-- what crosses to C of a read
+abbrev pub read_of : Result SystemRead ReadFault → Read
+read_of (Ok read) = record { refusal = granted; words = read.words; end = read.end }
+read_of (Err fault) = record { refusal = file_refusal File fault; words = 0; end = 0 }
+
+-- of a write
+abbrev pub written_of : Result ℕ SystemWriteFault → Written
+written_of (Ok count) = record { refusal = granted; bytes = count }
+written_of (Err fault) = record { refusal = about System (write_number fault); bytes = 0 }
+
+-- of a decision
+abbrev pub decision_of : Result Outcome FilesFault → Decision
+decision_of (Ok o) = record { refusal = granted; swept = o.swept; standing = o.standing; replaces = o.replaces }
+decision_of (Err fault) = record { refusal = files_refusal fault; swept = 0; standing = 0; replaces = false }
+
+-- of a certificate check
+abbrev pub certificate_of : Result Shown CheckFault → Certificate
+certificate_of (Ok c) = record { refusal = granted; standing = c.standing; replaces = c.replaces }
+certificate_of (Err fault) = record { refusal = check_refusal fault; standing = 0; replaces = false }
+
+-- of a ranking
+abbrev pub ranks_of : Result ℕ FilesFault → Ranks
+ranks_of (Ok highest) = record { refusal = granted; highest = highest }
+ranks_of (Err fault) = record { refusal = files_refusal fault; highest = 0 }

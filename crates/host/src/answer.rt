@@ -1,0 +1,166 @@
+//! The answers that cross to C.
+ghost use Rattle.std.specs.Prelude.{◌≡◌};
+ghost use Rattle.host.specs.Answers.{certificate_of, decision_of, ranks_of, read_of, written_of};
+
+use crate::item::Item;
+use crate::refusal::{Refusal, about, check_refusal, file_refusal, files_refusal, granted};
+use docket::{Certificate as Shown, Outcome};
+use files::{ReadFault, SystemRead, SystemWriteFault};
+use hosting::{CheckFault, FilesFault};
+
+/// What reading a file answers.
+#[repr(C)]
+#[derive(Clone, Copy)]
+pub struct Read {
+    pub refusal: Refusal,
+    /// How many words the system takes.
+    pub words: usize,
+    /// The place behind the file.
+    pub end: usize,
+}
+
+/// What writing a system answers.
+#[repr(C)]
+#[derive(Clone, Copy)]
+pub struct Written {
+    pub refusal: Refusal,
+    /// How many bytes its file takes.
+    pub bytes: usize,
+}
+
+/// What a decision answers.
+#[repr(C)]
+#[derive(Clone, Copy)]
+pub struct Decision {
+    pub refusal: Refusal,
+    /// How many strikes the sweeps made.
+    pub swept: u32,
+    /// How many pairs stand in the end.
+    pub standing: u32,
+    /// Whether the new system replaces the old.
+    pub replaces: bool,
+}
+
+/// What a certificate check answers.
+#[repr(C)]
+#[derive(Clone, Copy)]
+pub struct Certificate {
+    pub refusal: Refusal,
+    /// How many pairs stand.
+    pub standing: u32,
+    /// Whether the new system replaces the old.
+    pub replaces: bool,
+}
+
+/// What a ranking answers.
+#[repr(C)]
+#[derive(Clone, Copy)]
+pub struct Ranks {
+    pub refusal: Refusal,
+    /// The highest rank.
+    pub highest: u32,
+}
+
+// In a refused answer every other field is 0.
+
+impl Read {
+    /// What crosses of a read.
+    pub(crate) fn of(read: Result<SystemRead, ReadFault>) -> Read
+        ensures { result ≡ read_of read }
+    {
+        match read {
+            Ok(SystemRead { words, end }) => Read {
+                refusal: granted(),
+                words,
+                end,
+            },
+            Err(fault) => Read {
+                refusal: file_refusal(Item::File, fault),
+                words: 0,
+                end: 0,
+            },
+        }
+    }
+}
+
+impl Written {
+    /// What crosses of a write.
+    pub(crate) fn of(written: Result<usize, SystemWriteFault>) -> Written
+        ensures { result ≡ written_of written }
+    {
+        match written {
+            Ok(bytes) => Written {
+                refusal: granted(),
+                bytes,
+            },
+            Err(fault) => Written {
+                refusal: about(Item::System, fault as u8),
+                bytes: 0,
+            },
+        }
+    }
+}
+
+impl Decision {
+    /// What crosses of a decision.
+    pub(crate) fn of(decided: Result<Outcome, FilesFault>) -> Decision
+        ensures { result ≡ decision_of decided }
+    {
+        match decided {
+            Ok(Outcome {
+                swept,
+                standing,
+                replaces,
+            }) => Decision {
+                refusal: granted(),
+                swept,
+                standing,
+                replaces,
+            },
+            Err(fault) => Decision {
+                refusal: files_refusal(fault),
+                swept: 0,
+                standing: 0,
+                replaces: false,
+            },
+        }
+    }
+}
+
+impl Certificate {
+    /// What crosses of a certificate check.
+    pub(crate) fn of(checked: Result<Shown, CheckFault>) -> Certificate
+        ensures { result ≡ certificate_of checked }
+    {
+        match checked {
+            Ok(Shown { standing, replaces }) => Certificate {
+                refusal: granted(),
+                standing,
+                replaces,
+            },
+            Err(fault) => Certificate {
+                refusal: check_refusal(fault),
+                standing: 0,
+                replaces: false,
+            },
+        }
+    }
+}
+
+impl Ranks {
+    /// What crosses of a ranking.
+    pub(crate) fn of(ranked: Result<u32, FilesFault>) -> Ranks
+        ensures { result ≡ ranks_of ranked }
+    {
+        match ranked {
+            Ok(highest) => Ranks {
+                refusal: granted(),
+                highest,
+            },
+            Err(fault) => Ranks {
+                refusal: files_refusal(fault),
+                highest: 0,
+            },
+        }
+    }
+}
