@@ -1,93 +1,82 @@
 //! Compares an implementation with the answers by definition.
 
-use std::collections::BTreeMap;
+mod counts;
+mod lent;
 
 use crate::draw::{Dice, Shape, damage_table, damaged_file, exchange, random_up_to};
 use crate::implementation::{
-    Answer, Cause, Decision, Exchange, Failure, Implementation, Layer, Memory, Refusal,
+    Answer, Cause, Decision, Exchange, Extra, Failure, Implementation, Layer, Memory, Read, Refusal,
 };
 use crate::naive::{self, Game, Relation};
+use counts::Counts;
 
 const SEED: u64 = 20;
 const EXCHANGES: usize = 4_000;
 const FILES: usize = 20_000;
+/// Exchanges of two files that are damaged at every byte and in other ways.
+const DAMAGED_EXCHANGES: usize = 250;
+/// Exchanges of two files with several faults at once.
+const FAULTY_EXCHANGES: usize = 20_000;
+/// Stored systems whose words are damaged.
+const STORED_SYSTEMS: usize = 5_000;
 const PROGRESS_EVERY: usize = 250;
 /// Damaged tables for each exchange.
 const DAMAGED_TABLES: usize = 6;
 /// The most calls of a run.
 const MOST_CALLS: usize = 20;
-/// How many disagreements are told in full.
-const MOST_TOLD: usize = 5;
 
 /// Bytes, words and entries that no call may change.
 const UNTOUCHED_BYTE: u8 = 0xAA;
 const UNTOUCHED_WORD: u16 = 0xA5C3;
 const UNTOUCHED_ENTRY: u32 = 0xDEAD_BEEF;
 const UNTOUCHED_BEHIND: usize = 3;
+/// The refusal of a write for which there are too few bytes.
+const NO_ROOM: Refusal = 23;
 
-/// How often an answer was compared, and how often it agreed.
-#[derive(Clone, Copy, Default)]
-struct Count {
-    compared: usize,
-    agreed: usize,
-}
-
-/// The counts by what was compared.
-#[derive(Default)]
-struct Counts {
-    lines: BTreeMap<String, Count>,
-    told: usize,
-}
-
-impl Counts {
-    fn note(&mut self, what: impl Into<String>, agrees: bool, tell: impl FnOnce() -> String) {
-        let what = what.into();
-        if !agrees && self.told < MOST_TOLD {
-            self.told += 1;
-            eprintln!("\n{what}: {}", tell());
-        }
-        let count = self.lines.entry(what).or_default();
-        count.compared += 1;
-        if agrees {
-            count.agreed += 1;
-        }
-    }
-
-    fn print(&self, name: &str) -> bool {
-        println!("{:<42} {:>8} {:>8}", name, "compared", "agreed");
-        for (what, count) in &self.lines {
-            println!("{what:<42} {:>8} {:>8}", count.compared, count.agreed);
-        }
-        println!();
-        self.lines
-            .values()
-            .all(|count| count.compared == count.agreed)
-    }
-}
-
-fn progress(what: &str, done: usize, of: usize) {
+fn progress(name: &str, what: &str, done: usize, of: usize) {
     if done.is_multiple_of(PROGRESS_EVERY) || done == of {
-        eprint!("\r{what}: {done} of {of}  ");
+        eprint!("\r{name}, {what}: {done} of {of}  ");
         if done == of {
             eprintln!();
         }
     }
 }
 
-/// Compares on drawn files and exchanges; tells whether all agreed.
+/// A comparison that is made many times, on something drawn anew each time.
+type Comparison = fn(&dyn Implementation, &mut Dice, &mut Counts);
+
+const COMPARISONS: [(&str, usize, Comparison); 5] = [
+    ("files", FILES, compare_file),
+    ("stored systems", STORED_SYSTEMS, compare_stored),
+    ("exchanges", EXCHANGES, compare_exchange),
+    (
+        "damaged exchanges",
+        DAMAGED_EXCHANGES,
+        lent::compare_damaged,
+    ),
+    ("faulty exchanges", FAULTY_EXCHANGES, lent::compare_faults),
+];
+
+/// Compares on drawn files and exchanges, up to the first that is answered
+/// otherwise; tells whether all agreed.
 pub fn compare(implementation: &dyn Implementation) -> bool {
-    let mut dice = Dice::new(SEED);
     let mut counts = Counts::default();
-    for file in 1..=FILES {
-        compare_file(implementation, &mut dice, &mut counts);
-        progress("files", file, FILES);
+    for (what, times, comparison) in COMPARISONS {
+        let mut dice = Dice::new(SEED);
+        for done in 1..=times {
+            comparison(implementation, &mut dice, &mut counts);
+            if !counts.agree() {
+                eprintln!(
+                    "{}: stopped at {done} of {times} {what}",
+                    implementation.name()
+                );
+                break;
+            }
+            progress(implementation.name(), what, done, times);
+        }
     }
-    for exchange in 1..=EXCHANGES {
-        let drawn = exchange::exchange(&mut dice);
-        compare_exchange(implementation, &drawn, &mut dice, &mut counts);
-        progress("exchanges", exchange, EXCHANGES);
-    }
-    counts.print(implementation.name())
+    counts.print(implementation.name());
+    counts.agree()
 }
 
 fn compare_file(implementation: &dyn Implementation, dice: &mut Dice, counts: &mut Counts) {
@@ -140,7 +129,11 @@ fn compare_file(implementation: &dyn Implementation, dice: &mut Dice, counts: &m
             let mut laid_out = before.clone();
             let system = naive::words(read);
             laid_out[word_place..word_place + system.len()].copy_from_slice(&system);
-            counts.note("files read", answer == Ok(*end), tell);
+            let expected = Read {
+                words: system.len(),
+                end: *end,
+            };
+            counts.note("files read", answer == Ok(expected), tell);
             counts.note("words of files read", words == laid_out, tell);
 
             let layer = Layer::File(bytes[place..*end].to_vec());
@@ -154,6 +147,55 @@ fn compare_file(implementation: &dyn Implementation, dice: &mut Dice, counts: &m
     }
 }
 
+/// Compares the files that are written of words, which may be damaged, cut or
+/// have others behind them.
+fn compare_stored(implementation: &dyn Implementation, dice: &mut Dice, counts: &mut Counts) {
+    let most = Shape {
+        states: 6,
+        channels: dice.between(1, 8),
+        controller: dice.pick(&[1, 3, 16]),
+        environment: dice.pick(&[1, 3, 16]),
+        readings: &[0, 1, -1, 8_192, i16::MAX, i16::MIN],
+    };
+    let mut words = naive::words(&random_up_to(dice, most));
+    match dice.below(4) {
+        0 => words.truncate(dice.below(words.len() + 1)),
+        1 => words.extend([UNTOUCHED_WORD; UNTOUCHED_BEHIND]),
+        2 => {
+            // Some words are used by no pair of moves.
+            let reach = words.len().min(dice.pick(&[4, 40, usize::MAX]));
+            let place = dice.below(reach);
+            words[place] = dice.pick(&[0, 1, 5, 9, 17, 257, UNTOUCHED_WORD]);
+        }
+        _ => (),
+    }
+    let expected = naive::stored(&words).file();
+    let (bytes_before, room) = draw_room(dice, expected.len());
+    let mut bytes = bytes_before.clone();
+    let written = implementation.write_stored(&words, &mut bytes);
+    let tell = || format!("{words:?} into {room} bytes: {written:?}, {bytes:02x?}");
+    if room < expected.len() {
+        let agrees = written == Err(NO_ROOM) && bytes == bytes_before;
+        counts.note("stored systems refused with 23", agrees, tell);
+    } else {
+        let (file, behind) = bytes.split_at(expected.len());
+        let agrees = written == Ok(expected.len())
+            && file == expected
+            && behind.iter().all(|&byte| byte == UNTOUCHED_BYTE);
+        counts.note("stored systems written", agrees, tell);
+    }
+}
+
+/// Bytes for a file of the length: some more, just enough, or too few.
+fn draw_room(dice: &mut Dice, length: usize) -> (Vec<u8>, usize) {
+    let room = match dice.below(3) {
+        0 => length + UNTOUCHED_BEHIND,
+        1 => length,
+        _ => dice.below(length + 1),
+    };
+    (vec![UNTOUCHED_BYTE; room], room)
+}
+
 /// Compares the file that is written of a layer's system.
 fn compare_write(
     implementation: &dyn Implementation,
@@ -161,14 +203,13 @@ fn compare_write(
     dice: &mut Dice,
     counts: &mut Counts,
 ) {
+    if !implementation.offers_writing(layer) {
+        counts.pass_over("files of layers");
+        return;
+    }
     let draft = naive::draft(layer);
     let length = naive::write(&draft, usize::MAX).map_or(0, |bytes| bytes.len());
-    let room = match dice.below(3) {
-        0 => length + 2,
-        1 => length,
-        _ => dice.below(length + 1),
-    };
-    let before = vec![UNTOUCHED_BYTE; room];
+    let (before, room) = draw_room(dice, length);
     let mut bytes = before.clone();
     let mut words = vec![0; words_wanted(layer)];
     let written = implementation.write(layer, &mut words, &mut bytes);
@@ -206,14 +247,14 @@ struct Trial<'a> {
     table: Vec<u32>,
 }
 
-fn compare_exchange(
-    implementation: &dyn Implementation,
-    exchange: &Exchange,
-    dice: &mut Dice,
-    counts: &mut Counts,
-) {
+fn compare_exchange(implementation: &dyn Implementation, dice: &mut Dice, counts: &mut Counts) {
+    let exchange = &exchange::exchange(dice);
     compare_write(implementation, &exchange.old, dice, counts);
     compare_write(implementation, &exchange.new, dice, counts);
+    if !implementation.offers_exchange(exchange) {
+        counts.pass_over("exchanges of layers, or by sea state");
+        return;
+    }
     let game = Game::new(exchange);
     let mut trial = Trial {
         implementation,
@@ -223,7 +264,11 @@ fn compare_exchange(
         table: Vec::new(),
         game,
     };
-    trial.compare_run(dice, counts);
+    if implementation.offers(Extra::Runs) {
+        trial.compare_run(dice, counts);
+    } else {
+        counts.pass_over("runs");
+    }
     match trial.game.refused() {
         Some(refusal) => trial.compare_refused(refusal, trial.game.pairs(), counts),
         None => {
@@ -308,7 +353,11 @@ impl Trial<'_> {
     fn compare_decision(&mut self, largest: &Relation, dice: &mut Dice, counts: &mut Counts) {
         let pairs = self.game.pairs();
         self.table = vec![UNTOUCHED_ENTRY; pairs + UNTOUCHED_BEHIND];
-        let proposals = exchange::proposals(dice, self.game.states());
+        let mut proposals = exchange::proposals(dice, self.game.states());
+        if !self.implementation.offers(Extra::Proposals) {
+            proposals.clear();
+            counts.pass_over("answers to proposals");
+        }
         let (expected, expected_table) = self.game.decide(&proposals);
         let decided = self
             .implementation
@@ -335,11 +384,13 @@ impl Trial<'_> {
             agrees(&|given| given.swept == expected.swept),
             tell,
         );
-        counts.note(
-            "answers to proposals",
-            agrees(&|given| given.answers == expected.answers),
-            tell,
-        );
+        if self.implementation.offers(Extra::Proposals) {
+            counts.note(
+                "answers to proposals",
+                agrees(&|given| given.answers == expected.answers),
+                tell,
+            );
+        }
         counts.note(
             "pairs standing or struck",
             self.standing_pairs() == *largest,

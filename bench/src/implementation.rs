@@ -1,6 +1,6 @@
-//! The calls that every implementation offers, so that several can be
-//! compared and timed beside each other. Adding one is one file with an
-//! `impl Implementation`, and its name in `main`.
+//! The calls of an implementation, so that several can be compared and timed
+//! beside each other. Adding one is one file with an `impl Implementation`, and
+//! its name in `main`. One that does not offer every call says which.
 
 /// One side of an exchange, over the files that it is made from.
 #[derive(Clone, Debug)]
@@ -100,6 +100,15 @@ pub enum Answer {
     Refused(Refusal),
 }
 
+/// What a file was read to.
+#[derive(Clone, Copy, Debug, PartialEq, Eq)]
+pub struct Read {
+    /// How many words the system takes.
+    pub words: usize,
+    /// The byte place behind the file.
+    pub end: usize,
+}
+
 #[derive(Clone, Copy, Debug, PartialEq, Eq)]
 pub struct ReadFault {
     pub refusal: Refusal,
@@ -124,25 +133,51 @@ pub struct Accepted {
 /// Why a call on an exchange gives no result.
 #[derive(Clone, Copy, Debug, PartialEq, Eq)]
 pub enum Failure {
+    /// The first channel whose tolerance is refused.
+    Tolerance(Refusal, u8),
     OldFile(ReadFault),
     NewFile(ReadFault),
+    /// The two systems do not go together, or the table does not serve.
     Refused(Refusal),
     /// The first pair of a certificate that is out of order.
     OutOfOrder(Refusal, Pair),
 }
 
+/// Calls that do not belong to every implementation.
+#[derive(Clone, Copy, Debug, PartialEq, Eq)]
+pub enum Extra {
+    /// Strikes that are proposed to a decision.
+    Proposals,
+    /// Calls on a docket, one by one.
+    Runs,
+}
+
+/// Where both sides of an exchange are files, a call on it that is refused,
+/// but for one that names a pair, leaves all memory as it was. Words behind
+/// the systems and entries behind the pairs are never touched.
 pub trait Implementation {
     fn name(&self) -> &str;
 
-    /// Reads the file at a byte place into the words from a word place on;
-    /// tells the byte place behind the file.
+    /// Whether the systems of such layers can be written.
+    fn offers_writing(&self, layer: &Layer) -> bool;
+
+    /// Whether such an exchange can be decided, checked and ranked.
+    fn offers_exchange(&self, exchange: &Exchange) -> bool;
+
+    fn offers(&self, extra: Extra) -> bool;
+
+    /// Reads the file at a byte place into the words from a word place on.
     fn read(
         &self,
         bytes: &[u8],
         place: usize,
         words: &mut [u16],
         word_place: usize,
-    ) -> Result<usize, ReadFault>;
+    ) -> Result<Read, ReadFault>;
+
+    /// Writes the file of the system at the front of the words, the resting
+    /// system where they have no layout; tells how many bytes it takes.
+    fn write_stored(&self, words: &[u16], bytes: &mut [u8]) -> Result<usize, Refusal>;
 
     /// Reads the layer's files, which have to be whole and to fit, into the
     /// words, and writes the file of the layer's system; tells how many bytes

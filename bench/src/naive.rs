@@ -13,6 +13,9 @@ const MOST_STATES: usize = 256;
 const MOST_CHANNELS: usize = 8;
 const MOST_MOVES: usize = 16;
 const NEXT_WORDS: usize = MOST_MOVES * MOST_MOVES;
+const MOST_TOLERANCE: u16 = 1_000;
+/// What is added to a reading where it is stored.
+const READING_OFFSET: i32 = 32_768;
 
 /// How many values the seven bits of a byte have; a byte of this or above is
 /// not the last of its number.
@@ -101,7 +104,7 @@ pub fn words(draft: &Draft) -> Vec<u16> {
     let mut words = vec![draft.states.len() as u16, draft.channels as u16];
     for state in &draft.states {
         for &reading in &state.readings {
-            words.push((i32::from(reading) + 32_768) as u16);
+            words.push((i32::from(reading) + READING_OFFSET) as u16);
         }
         words.extend([state.controller as u16, state.environment as u16]);
         let mut next = [0; NEXT_WORDS];
@@ -114,6 +117,85 @@ pub fn words(draft: &Draft) -> Vec<u16> {
         words.extend(next);
     }
     words
+}
+
+/// The system that stands at the front of the words, if they have the layout.
+fn laid_out(words: &[u16]) -> Option<Draft> {
+    let within = |word: u16, most: usize| (1..=most).contains(&word.into()).then_some(word.into());
+    let count = within(*words.first()?, MOST_STATES)?;
+    let channels = within(*words.get(1)?, MOST_CHANNELS)?;
+    let row = channels + 2 + NEXT_WORDS;
+    let rows = words.get(2..2 + count * row)?;
+    let mut states = Vec::new();
+    for row in rows.chunks(row) {
+        let reading = |&word: &u16| (i32::from(word) - READING_OFFSET) as i16;
+        let controller = within(row[channels], MOST_MOVES)?;
+        let environment = within(row[channels + 1], MOST_MOVES)?;
+        let mut next = Vec::new();
+        for own in 0..controller {
+            for other in 0..environment {
+                let state = usize::from(row[channels + 2 + own * MOST_MOVES + other]);
+                next.push((state < count).then_some(state)?);
+            }
+        }
+        states.push(DraftState {
+            readings: row[..channels].iter().map(reading).collect(),
+            controller,
+            environment,
+            next,
+        });
+    }
+    Some(Draft { channels, states })
+}
+
+fn resting() -> Draft {
+    let state = DraftState {
+        readings: vec![0],
+        controller: 1,
+        environment: 1,
+        next: vec![0],
+    };
+    Draft {
+        channels: 1,
+        states: vec![state],
+    }
+}
+
+/// The system at the front of the words, or the resting system.
+pub fn stored(words: &[u16]) -> Draft {
+    laid_out(words).unwrap_or_else(resting)
+}
+
+/// How many words and entries a call on an exchange is lent.
+#[derive(Clone, Copy, Debug)]
+pub struct Rooms {
+    pub old_words: usize,
+    pub new_words: usize,
+    pub table: usize,
+}
+
+/// The systems of an exchange of two files, or why every call on it is
+/// refused.
+pub fn opening(exchange: &Exchange, rooms: Rooms) -> Result<(Draft, Draft), Failure> {
+    let (Layer::File(old), Layer::File(new)) = (&exchange.old, &exchange.new) else {
+        panic!("both sides have to be files");
+    };
+    if let Likeness::Within(tolerances) = exchange.likeness {
+        for (channel, most) in tolerances.into_iter().enumerate() {
+            if most > MOST_TOLERANCE {
+                return Err(Failure::Tolerance(27, channel as u8));
+            }
+        }
+    }
+    let (old, _) = read(old, 0, rooms.old_words).map_err(Failure::OldFile)?;
+    let (new, _) = read(new, 0, rooms.new_words).map_err(Failure::NewFile)?;
+    if old.channels != new.channels {
+        return Err(Failure::Refused(2));
+    }
+    if rooms.table < old.states.len() * new.states.len() {
+        return Err(Failure::Refused(4));
+    }
+    Ok((old, new))
 }
 
 fn buffer(capacity: usize) -> Draft {
@@ -257,11 +339,15 @@ pub struct Game {
 
 impl Game {
     pub fn new(exchange: &Exchange) -> Self {
-        Game {
-            old: draft(&exchange.old),
-            new: draft(&exchange.new),
-            likeness: exchange.likeness.clone(),
-        }
+        Self::of(
+            draft(&exchange.old),
+            draft(&exchange.new),
+            exchange.likeness.clone(),
+        )
+    }
+
+    pub fn of(old: Draft, new: Draft, likeness: Likeness) -> Self {
+        Game { old, new, likeness }
     }
 
     /// The numbers of old and of new states.
@@ -356,6 +442,27 @@ impl Game {
     ) -> Option<usize> {
         (0..self.old.states[pair.0].controller)
             .find(|&own| !self.answered(pair, own, &|other| !struck(table[self.place(other)])))
+    }
+
+    /// The ranks, round by round.
+    pub fn ranks(&self) -> Vec<u32> {
+        let rank_of_sight = |pair| u32::from(!self.alike(pair));
+        let mut table: Vec<u32> = self.all_pairs().map(rank_of_sight).collect();
+        for k in 2.. {
+            let struck = |entry| (1..k).contains(&entry);
+            let added: Vec<_> = self
+                .all_pairs()
+                .filter(|&pair| table[self.place(pair)] == 0)
+                .filter(|&pair| self.refuting(&table, pair, &struck).is_some())
+                .collect();
+            if added.is_empty() {
+                break;
+            }
+            for pair in added {
+                table[self.place(pair)] = k;
+            }
+        }
+        table
     }
 
     /// Does the table solve the rank rule?

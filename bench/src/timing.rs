@@ -1,5 +1,6 @@
-//! Times an implementation on large exchanges and files.
+//! Times implementations beside each other, on large exchanges and files.
 
+use std::fmt::Debug;
 use std::hint::black_box;
 use std::time::{Duration, Instant};
 
@@ -9,9 +10,9 @@ use crate::implementation::{Codes, Exchange, Implementation, Layer, Likeness, Me
 const SEED: u64 = 180;
 
 /// Rounds of a line: as many as fit into its time, within these bounds.
-const LINE_TIME: Duration = Duration::from_millis(1_200);
-const FEWEST_ROUNDS: u32 = 3;
-const MOST_ROUNDS: u32 = 101;
+const LINE_TIME: Duration = Duration::from_millis(2_400);
+const FEWEST_ROUNDS: usize = 5;
+const MOST_ROUNDS: usize = 201;
 
 /// The words of the largest stored system.
 const MOST_WORDS: usize = 68_098;
@@ -19,59 +20,39 @@ const MOST_PAIRS: usize = 256 * 256;
 /// A side is made of two stored systems at most.
 const SIDE_WORDS: usize = 2 * MOST_WORDS;
 
-/// Where Linux tells how many nanoseconds this process has been on a processor.
-const PROCESSOR_TIME: &str = "/proc/self/schedstat";
-
 /// A line of the table: what was timed, and what came of it.
 pub struct Line {
     pub name: String,
-    pub times: Times,
+    pub rounds: usize,
+    /// The times of each implementation, where it offers the call.
+    pub times: Vec<Option<Times>>,
     pub result: String,
 }
 
-/// How long a call took over some rounds.
+impl Line {
+    /// The least time of the last implementation, in that of the first.
+    pub fn ratio(&self) -> Option<f64> {
+        let first = (*self.times.first()?)?;
+        let last = (*self.times.last()?)?;
+        (self.times.len() > 1).then(|| last.least.as_secs_f64() / first.least.as_secs_f64())
+    }
+}
+
+/// How long a call took over the rounds of its line.
 #[derive(Clone, Copy)]
 pub struct Times {
-    pub rounds: u32,
     pub median: Duration,
     pub least: Duration,
-    /// The mean time on a processor, which other processes do not lengthen.
-    pub on_processor: Option<Duration>,
 }
 
-fn processor_time() -> Option<Duration> {
-    let told = std::fs::read_to_string(PROCESSOR_TIME).ok()?;
-    let nanoseconds = told.split_whitespace().next()?.parse().ok()?;
-    Some(Duration::from_nanos(nanoseconds))
-}
-
-/// Times the call; tells what it answered last.
-fn time_rounds<T>(mut call: impl FnMut() -> T) -> (Times, T) {
-    let start = Instant::now();
-    let mut answer = call();
-    let first = start.elapsed().max(Duration::from_nanos(1));
-    let fitting = LINE_TIME.as_nanos() / first.as_nanos();
-    let rounds = fitting.clamp(FEWEST_ROUNDS.into(), MOST_ROUNDS.into()) as u32;
-
-    let before = processor_time();
-    let mut times: Vec<Duration> = (0..rounds)
-        .map(|_| {
-            let start = Instant::now();
-            answer = black_box(call());
-            start.elapsed()
-        })
-        .collect();
-    let on_processor = processor_time()
-        .zip(before)
-        .map(|(after, before)| after.saturating_sub(before) / rounds);
-    times.sort();
-    let times = Times {
-        rounds,
-        median: times[times.len() / 2],
-        least: times[0],
-        on_processor,
-    };
-    (times, answer)
+impl Times {
+    fn of(mut rounds: Vec<Duration>) -> Self {
+        rounds.sort();
+        Times {
+            median: rounds[rounds.len() / 2],
+            least: rounds[0],
+        }
+    }
 }
 
 fn file_of(draft: &Draft) -> Layer {
@@ -174,86 +155,235 @@ fn largest_file() -> Vec<u8> {
     random(&mut Dice::new(SEED), shape).file()
 }
 
-fn time_files(implementation: &dyn Implementation, lines: &mut Vec<Line>) {
-    let file = largest_file();
-    let mut words = vec![0; MOST_WORDS];
-    let (times, end) = time_rounds(|| implementation.read(&file, 0, &mut words, 0));
-    assert_eq!(end, Ok(file.len()), "the largest file is read");
-    let mut line = |name: &str, times| {
-        lines.push(Line {
-            name: name.into(),
-            times,
-            result: format!("{} bytes", file.len()),
-        });
-    };
-    line("reading the largest file", times);
-    let layer = Layer::File(file.clone());
-    let mut bytes = vec![0; file.len()];
-    let (times, length) = time_rounds(|| implementation.write(&layer, &mut words, &mut bytes));
-    assert_eq!(length, Ok(file.len()), "the largest system is written");
-    assert_eq!(bytes, file, "and its file is the same");
-    line("reading and writing the largest file", times);
+/// An implementation with memory of its own.
+struct Desk<'a> {
+    implementation: &'a dyn Implementation,
+    old_words: Vec<u16>,
+    new_words: Vec<u16>,
+    table: Vec<u32>,
+    bytes: Vec<u8>,
 }
 
-fn time_exchange(
-    implementation: &dyn Implementation,
-    name: &str,
-    exchange: &Exchange,
-    lines: &mut Vec<Line>,
-) {
-    let mut old_words = vec![0; SIDE_WORDS];
-    let mut new_words = vec![0; SIDE_WORDS];
-    let mut table = vec![0; MOST_PAIRS];
-    let mut memory = Memory {
-        old_words: &mut old_words,
-        new_words: &mut new_words,
-        table: &mut table,
+impl<'a> Desk<'a> {
+    fn new(implementation: &'a dyn Implementation) -> Self {
+        Desk {
+            implementation,
+            old_words: vec![0; SIDE_WORDS],
+            new_words: vec![0; SIDE_WORDS],
+            table: vec![0; MOST_PAIRS],
+            bytes: Vec::new(),
+        }
+    }
+
+    fn clear(&mut self) {
+        let implementation = self.implementation;
+        *self = Desk::new(implementation);
+    }
+
+    fn memory(&mut self) -> Memory<'_> {
+        Memory {
+            old_words: &mut self.old_words,
+            new_words: &mut self.new_words,
+            table: &mut self.table,
+        }
+    }
+
+    fn holds_the_same(&self, other: &Desk) -> bool {
+        self.old_words == other.old_words
+            && self.new_words == other.new_words
+            && self.table == other.table
+            && self.bytes == other.bytes
+    }
+}
+
+/// The implementations that are timed, and the lines up to now.
+struct Timing<'a> {
+    desks: Vec<Desk<'a>>,
+    lines: Vec<Line>,
+}
+
+impl Timing<'_> {
+    fn clear(&mut self) {
+        for desk in &mut self.desks {
+            desk.clear();
+        }
+    }
+
+    /// Times one call of the implementations that offer it. All are called in
+    /// each round, in changing order, so that they see the same machine. What
+    /// they answer and leave has to be the same.
+    fn time_line<T: PartialEq + Debug>(
+        &mut self,
+        name: &str,
+        offers: impl Fn(&dyn Implementation) -> bool,
+        call: impl Fn(&mut Desk) -> T,
+        tell: impl FnOnce(&T) -> String,
+    ) {
+        let number = self.lines.len() + 1;
+        let mut offering: Vec<(usize, &mut Desk)> = (self.desks.iter_mut().enumerate())
+            .filter(|(_, desk)| offers(desk.implementation))
+            .collect();
+
+        // A call of each tells what it answers, and how many rounds fit.
+        eprint!("\rline {number:>2}, {name:<45}");
+        let start = Instant::now();
+        let answers: Vec<T> = offering.iter_mut().map(|(_, desk)| call(desk)).collect();
+        let rounds = rounds_that_fit(start.elapsed());
+
+        let mut times = vec![Vec::new(); offering.len()];
+        for round in 0..rounds {
+            eprint!("\rline {number:>2}, {name:<45} {round:>3} of {rounds} rounds ");
+            for turn in 0..offering.len() {
+                let which = (round + turn) % offering.len();
+                let start = Instant::now();
+                black_box(call(offering[which].1));
+                times[which].push(start.elapsed());
+            }
+        }
+
+        assert_same(name, &offering, &answers);
+        let mut line = Line {
+            name: name.into(),
+            rounds,
+            times: Vec::new(),
+            result: answers.first().map_or("-".into(), tell),
+        };
+        let indices: Vec<usize> = offering.iter().map(|(index, _)| *index).collect();
+        line.times.resize(self.desks.len(), None);
+        for (index, times) in indices.into_iter().zip(times) {
+            line.times[index] = Some(Times::of(times));
+        }
+        self.lines.push(line);
+    }
+
+    fn time_files(&mut self) {
+        self.clear();
+        let file = largest_file();
+        let length = file.len();
+        for desk in &mut self.desks {
+            desk.bytes = vec![0; length];
+        }
+        let any = |_: &dyn Implementation| true;
+        let size = |length: usize| format!("{length} bytes");
+        self.time_line(
+            "reading the largest file",
+            any,
+            |desk| {
+                let words = &mut desk.old_words;
+                let read = desk.implementation.read(&file, 0, words, 0);
+                read.expect("the largest file is read").end
+            },
+            |&end| size(end),
+        );
+        self.time_line(
+            "writing the largest file",
+            any,
+            |desk| {
+                let bytes = &mut desk.bytes;
+                let written = desk.implementation.write_stored(&desk.old_words, bytes);
+                written.expect("the largest system is written")
+            },
+            |&written| size(written),
+        );
+        let layer = Layer::File(file);
+        self.time_line(
+            "reading and writing the largest file",
+            any,
+            |desk| {
+                let (words, bytes) = (&mut desk.old_words, &mut desk.bytes);
+                let written = desk.implementation.write(&layer, words, bytes);
+                written.expect("the largest system is written")
+            },
+            |&written| size(written),
+        );
+        let Layer::File(file) = layer else {
+            unreachable!("the layer is a file")
+        };
+        assert!(
+            self.desks.iter().all(|desk| desk.bytes == file),
+            "what is written is the file that was read"
+        );
+    }
+
+    fn time_exchange(&mut self, name: &str, exchange: &Exchange) {
+        self.clear();
+        let offers = |offering: &dyn Implementation| offering.offers_exchange(exchange);
+        self.time_line(
+            &format!("{name}: decide"),
+            offers,
+            |desk| {
+                let implementation = desk.implementation;
+                let decided = implementation.decide(exchange, &[], &mut desk.memory());
+                decided.expect("the exchange is granted")
+            },
+            |decision| {
+                let verdict = if decision.replaces {
+                    "replaces"
+                } else {
+                    "differs"
+                };
+                let (swept, standing) = (decision.swept, decision.standing);
+                format!("{verdict}, {swept} struck, {standing} stand")
+            },
+        );
+        self.time_line(
+            &format!("{name}: check"),
+            offers,
+            |desk| {
+                let implementation = desk.implementation;
+                let checked = implementation.check(exchange, &mut desk.memory());
+                checked.expect("the docket's table is a certificate")
+            },
+            |accepted| format!("accepted, {} stand", accepted.standing),
+        );
+        self.time_line(
+            &format!("{name}: rank"),
+            offers,
+            |desk| {
+                let implementation = desk.implementation;
+                let ranked = implementation.rank(exchange, &mut desk.memory());
+                ranked.expect("the exchange is granted")
+            },
+            |highest| format!("highest {highest}"),
+        );
+    }
+}
+
+fn rounds_that_fit(round: Duration) -> usize {
+    let fitting = LINE_TIME.as_nanos() / round.as_nanos().max(1);
+    (fitting as usize).clamp(FEWEST_ROUNDS, MOST_ROUNDS)
+}
+
+/// Stops with what differs, if anything does.
+fn assert_same<T: PartialEq + Debug>(name: &str, offering: &[(usize, &mut Desk)], answers: &[T]) {
+    let Some(((_, first), others)) = offering.split_first() else {
+        return;
     };
-    let (times, decision) = time_rounds(|| {
-        implementation
-            .decide(exchange, &[], &mut memory)
-            .expect("the exchange is granted")
-    });
-    let verdict = if decision.replaces {
-        "replaces"
-    } else {
-        "differs"
-    };
-    lines.push(Line {
-        name: format!("{name}: decide"),
-        times,
-        result: format!(
-            "{verdict}, {} struck, {} stand",
-            decision.swept, decision.standing
-        ),
-    });
-    let (times, accepted) = time_rounds(|| implementation.check(exchange, &mut memory));
-    let accepted = accepted.expect("the docket's table is a certificate");
-    assert_eq!(accepted.standing, decision.standing);
-    lines.push(Line {
-        name: format!("{name}: check"),
-        times,
-        result: "accepted".into(),
-    });
-    let (times, highest) = time_rounds(|| implementation.rank(exchange, &mut memory));
-    let highest = highest.expect("the exchange is granted");
-    lines.push(Line {
-        name: format!("{name}: rank"),
-        times,
-        result: format!("highest {highest}"),
-    });
+    for ((_, other), answer) in others.iter().zip(&answers[1..]) {
+        let (one, two) = (first.implementation.name(), other.implementation.name());
+        assert_eq!(&answers[0], answer, "{name}: {one} and {two} answer this");
+        assert!(
+            first.holds_the_same(other),
+            "{name}: {one} and {two} leave other memory"
+        );
+    }
 }
 
 /// Times the files, and the exchanges whose names begin with `prefix`.
-pub fn time(implementation: &dyn Implementation, prefix: &str) -> Vec<Line> {
-    let mut lines = Vec::new();
-    time_files(implementation, &mut lines);
+pub fn time(implementations: &[&dyn Implementation], prefix: &str) -> Vec<Line> {
+    let mut timing = Timing {
+        desks: implementations
+            .iter()
+            .map(|&each| Desk::new(each))
+            .collect(),
+        lines: Vec::new(),
+    };
+    timing.time_files();
     for (name, exchange) in exchanges() {
         if name.starts_with(prefix) {
-            eprint!("\r{}: {name:<40}", implementation.name());
-            time_exchange(implementation, name, &exchange, &mut lines);
+            timing.time_exchange(name, &exchange);
         }
     }
     eprintln!();
-    lines
+    timing.lines
 }

@@ -7,13 +7,7 @@ use crate::implementation::{
 
 fn likeness(dice: &mut Dice) -> (Likeness, &'static [i16]) {
     match dice.below(4) {
-        0 => {
-            let mut tolerances = [0; 8];
-            for tolerance in &mut tolerances {
-                *tolerance = dice.pick(&[0, 1, 4, 1_000]);
-            }
-            (Likeness::Within(tolerances), &[0, 1, 2, 5, -1, 1_001])
-        }
+        0 => (tolerances(dice), &[0, 1, 2, 5, -1, 1_001]),
         1 => {
             let channel = dice.below(3) as u8;
             let readings = &[-20, 0, 1, 10, 11, 50, 51, 900, 1_400, 1_401];
@@ -61,6 +55,55 @@ fn layer(dice: &mut Dice, most: Shape, depth: usize) -> Layer {
     }
 }
 
+/// Two files, small ones or chains, often near copies of each other.
+fn two_files(dice: &mut Dice, small: Shape) -> (Layer, Layer) {
+    match dice.below(5) {
+        0 => (file(dice, small), file(dice, small)),
+        1 => {
+            let shape = Shape {
+                environment: dice.between(1, 2),
+                ..small
+            };
+            (file_of(&random(dice, shape)), file_of(&random(dice, shape)))
+        }
+        2 | 3 => {
+            let old = random_up_to(dice, small);
+            let new = near_copy(dice, &old, small.readings);
+            (file_of(&old), file_of(&new))
+        }
+        _ => {
+            let mut side = || {
+                let (states, moves) = (dice.between(1, 9), dice.between(1, 3));
+                let last = dice.pick(small.readings);
+                file_of(&chain(states, moves, dice.between(1, 3), last))
+            };
+            (side(), side())
+        }
+    }
+}
+
+/// An exchange of two files by tolerances.
+pub fn of_files(dice: &mut Dice) -> Exchange {
+    let small = Shape {
+        states: if dice.once_in(20) { 20 } else { 4 },
+        channels: dice.pick(&[1, 1, 2, 3, 8]),
+        controller: 3,
+        environment: 3,
+        readings: &[0, 1, 2, 5, -1, 1_001],
+    };
+    let (old, new) = two_files(dice, small);
+    let likeness = if dice.once_in(3) {
+        Likeness::Exact
+    } else {
+        tolerances(dice)
+    };
+    Exchange { old, new, likeness }
+}
+
+fn tolerances(dice: &mut Dice) -> Likeness {
+    Likeness::Within([(); 8].map(|()| dice.pick(&[0, 1, 4, 1_000])))
+}
+
 pub fn exchange(dice: &mut Dice) -> Exchange {
     let (likeness, readings) = likeness(dice);
     let small = Shape {
@@ -78,27 +121,7 @@ pub fn exchange(dice: &mut Dice) -> Exchange {
         readings,
     };
     let (old, new) = match dice.below(11) {
-        0 => (file(dice, small), file(dice, small)),
-        1 => {
-            let shape = Shape {
-                environment: dice.between(1, 2),
-                ..small
-            };
-            (file_of(&random(dice, shape)), file_of(&random(dice, shape)))
-        }
-        2 | 3 => {
-            let old = random_up_to(dice, small);
-            let new = near_copy(dice, &old, readings);
-            (file_of(&old), file_of(&new))
-        }
-        4 => {
-            let mut side = || {
-                let (states, moves) = (dice.between(1, 9), dice.between(1, 3));
-                let last = dice.pick(readings);
-                file_of(&chain(states, moves, dice.between(1, 3), last))
-            };
-            (side(), side())
-        }
+        0..=4 => two_files(dice, small),
         5 => {
             let mut side = || {
                 let buffer = Layer::Buffer(dice.below(7) as u8);

@@ -3,15 +3,15 @@
 use super::arena::{Arena, Exchange as PlainExchange, Pair as PlainPair};
 use super::certificate::{CertificateFault, check_certificate, rank};
 use super::docket::{Cause as PlainCause, Docket, Proposal as PlainProposal, Settlement};
-use super::file::{ReadFault as PlainReadFault, read_system, write_system};
+use super::file::{ReadFault as PlainReadFault, SystemFile, read_system, write_system};
 use super::layers::{Buffer, CodeList, Coded, Joint};
 use super::likeness::{Exact, SeaState, Within};
 use super::refusal::Refusal as PlainRefusal;
 use super::stored::Stored;
 use super::system::System;
 use crate::implementation::{
-    Accepted, Answer, Call, Cause, Codes, Decision, Exchange, Failure, Implementation, Layer,
-    Likeness, Memory, Pair, Proposal, ReadFault, Refusal,
+    Accepted, Answer, Call, Cause, Codes, Decision, Exchange, Extra, Failure, Implementation,
+    Layer, Likeness, Memory, Pair, Proposal, Read, ReadFault, Refusal,
 };
 
 pub struct Plain;
@@ -96,31 +96,91 @@ fn call<A: Arena>(docket: &mut Docket, arena: &A, table: &mut [u32], call: &Call
     answer.unwrap_or_else(|refusal| Answer::Refused(refusal.number()))
 }
 
-/// Reads one file; tells the byte place and the word place behind it.
-fn read_file(
-    bytes: &[u8],
-    place: usize,
-    words: &mut [u16],
-    word_place: usize,
-) -> Result<(usize, usize), ReadFault> {
-    let room = words.len().saturating_sub(word_place);
-    let file = read_system(bytes, place, room)?;
-    file.lay_out(words, word_place);
-    Ok((file.end(), word_place + file.words()))
+/// Reads the files of a layer, for so many words; the systems are to lie there
+/// one behind the other.
+fn read_files(layer: &Layer, room: usize, files: &mut Vec<SystemFile>) -> Result<(), ReadFault> {
+    match layer {
+        Layer::File(bytes) => {
+            let taken: usize = files.iter().map(SystemFile::words).sum();
+            files.push(read_system(bytes, 0, room - taken)?);
+            Ok(())
+        }
+        Layer::Buffer(_) => Ok(()),
+        Layer::Joint(first, second) => {
+            read_files(first, room, files)?;
+            read_files(second, room, files)
+        }
+        Layer::Coded(below, _) => read_files(below, room, files),
+    }
 }
 
-/// Reads the files of a layer one behind the other; tells the word place
-/// behind them.
-fn read_files(layer: &Layer, words: &mut [u16], place: usize) -> Result<usize, ReadFault> {
-    match layer {
-        Layer::File(bytes) => Ok(read_file(bytes, 0, words, place)?.1),
-        Layer::Buffer(_) => Ok(place),
-        Layer::Joint(first, second) => {
-            let place = read_files(first, words, place)?;
-            read_files(second, words, place)
-        }
-        Layer::Coded(below, _) => read_files(below, words, place),
+/// Lays out the systems of the files one behind the other.
+fn lay_out(files: &[SystemFile], words: &mut [u16]) {
+    let mut place = 0;
+    for file in files {
+        file.lay_out(words, place);
+        place += file.words();
     }
+}
+
+/// The files of both sides, read and not laid out yet.
+struct Sides {
+    old: Vec<SystemFile>,
+    new: Vec<SystemFile>,
+}
+
+impl Sides {
+    /// Tests the tolerances, and reads the files of both sides.
+    fn read(exchange: &Exchange, memory: &Memory) -> Result<Self, Failure> {
+        check_tolerances(&exchange.likeness)?;
+        let (mut old, mut new) = (Vec::new(), Vec::new());
+        read_files(&exchange.old, memory.old_words.len(), &mut old).map_err(Failure::OldFile)?;
+        read_files(&exchange.new, memory.new_words.len(), &mut new).map_err(Failure::NewFile)?;
+        Ok(Sides { old, new })
+    }
+
+    /// The refusals of an opening, for an exchange of two files.
+    fn check_opening(&self, exchange: &Exchange, entries: usize) -> Result<(), Failure> {
+        if let (Layer::File(_), Layer::File(_)) = (&exchange.old, &exchange.new) {
+            let (old, new) = (&self.old[0], &self.new[0]);
+            if old.channels() != new.channels() {
+                return Err(PlainRefusal::ChannelsDiffer.into());
+            }
+            if entries < old.states() * new.states() {
+                return Err(PlainRefusal::TableTooShort.into());
+            }
+        }
+        Ok(())
+    }
+
+    fn lay_out(&self, memory: &mut Memory) {
+        lay_out(&self.old, memory.old_words);
+        lay_out(&self.new, memory.new_words);
+    }
+}
+
+fn check_tolerances(likeness: &Likeness) -> Result<(), Failure> {
+    let Likeness::Within(tolerances) = likeness else {
+        return Ok(());
+    };
+    match (0..)
+        .zip(tolerances)
+        .find(|(_, most)| **most > Within::MOST_TOLERANCE)
+    {
+        Some((channel, _)) => {
+            let refusal = PlainRefusal::ToleranceTooLarge.number();
+            Err(Failure::Tolerance(refusal, channel))
+        }
+        None => Ok(()),
+    }
+}
+
+/// Reads both sides into the memory for calls that begin with an opening.
+fn prepare(exchange: &Exchange, memory: &mut Memory) -> Result<(), Failure> {
+    let sides = Sides::read(exchange, memory)?;
+    sides.check_opening(exchange, memory.table.len())?;
+    sides.lay_out(memory);
+    Ok(())
 }
 
 /// Takes the next stored system off the words.
@@ -213,11 +273,10 @@ macro_rules! with_likeness {
     };
 }
 
-/// Reads both sides and evaluates the body with the arena of the exchange.
+/// Evaluates the body with the arena of the exchange, whose systems have been
+/// laid out.
 macro_rules! with_arena {
     ($exchange:expr, $memory:expr, |$arena:ident| $body:expr) => {{
-        read_files(&$exchange.old, $memory.old_words, 0).map_err(Failure::OldFile)?;
-        read_files(&$exchange.new, $memory.new_words, 0).map_err(Failure::NewFile)?;
         with_system!(&$exchange.old, $memory.old_words, |old| {
             with_system!(&$exchange.new, $memory.new_words, |new| {
                 with_likeness!(&$exchange.likeness, |likeness| {
@@ -238,18 +297,42 @@ impl Implementation for Plain {
         "plain"
     }
 
+    fn offers_writing(&self, _: &Layer) -> bool {
+        true
+    }
+
+    fn offers_exchange(&self, _: &Exchange) -> bool {
+        true
+    }
+
+    fn offers(&self, _: Extra) -> bool {
+        true
+    }
+
     fn read(
         &self,
         bytes: &[u8],
         place: usize,
         words: &mut [u16],
         word_place: usize,
-    ) -> Result<usize, ReadFault> {
-        Ok(read_file(bytes, place, words, word_place)?.0)
+    ) -> Result<Read, ReadFault> {
+        let room = words.len().saturating_sub(word_place);
+        let file = read_system(bytes, place, room)?;
+        file.lay_out(words, word_place);
+        Ok(Read {
+            words: file.words(),
+            end: file.end(),
+        })
+    }
+
+    fn write_stored(&self, words: &[u16], bytes: &mut [u8]) -> Result<usize, Refusal> {
+        write_system(&Stored::over(words), bytes).map_err(PlainRefusal::number)
     }
 
     fn write(&self, layer: &Layer, words: &mut [u16], bytes: &mut [u8]) -> Result<usize, Refusal> {
-        read_files(layer, words, 0).expect("the layer's files are whole");
+        let mut files = Vec::new();
+        read_files(layer, words.len(), &mut files).expect("the layer's files are whole");
+        lay_out(&files, words);
         with_system!(layer, words, |system| write_system(&system, bytes))
             .map_err(PlainRefusal::number)
     }
@@ -260,6 +343,7 @@ impl Implementation for Plain {
         proposals: &[Proposal],
         memory: &mut Memory,
     ) -> Result<Decision, Failure> {
+        prepare(exchange, memory)?;
         let proposals: Vec<PlainProposal> = proposals.iter().map(Into::into).collect();
         let decision = with_arena!(exchange, memory, |arena| {
             Docket::new().decide(&arena, memory.table, &proposals)
@@ -279,6 +363,7 @@ impl Implementation for Plain {
         calls: &[Call],
         memory: &mut Memory,
     ) -> Result<Vec<Answer>, Failure> {
+        Sides::read(exchange, memory)?.lay_out(memory);
         Ok(with_arena!(exchange, memory, |arena| {
             let mut docket = Docket::new();
             calls
@@ -289,6 +374,7 @@ impl Implementation for Plain {
     }
 
     fn check(&self, exchange: &Exchange, memory: &mut Memory) -> Result<Accepted, Failure> {
+        prepare(exchange, memory)?;
         let accepted = with_arena!(exchange, memory, |arena| {
             check_certificate(&arena, memory.table)
         })?;
@@ -299,6 +385,7 @@ impl Implementation for Plain {
     }
 
     fn rank(&self, exchange: &Exchange, memory: &mut Memory) -> Result<u32, Failure> {
+        prepare(exchange, memory)?;
         Ok(with_arena!(exchange, memory, |arena| {
             rank(&arena, memory.table)
         })?)

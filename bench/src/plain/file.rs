@@ -108,6 +108,14 @@ pub fn read_system(bytes: &[u8], place: usize, room: usize) -> Result<SystemFile
 }
 
 impl SystemFile {
+    pub fn states(&self) -> usize {
+        self.states
+    }
+
+    pub fn channels(&self) -> usize {
+        self.channels
+    }
+
     /// The byte place behind the file.
     pub fn end(&self) -> usize {
         self.end
