@@ -11,7 +11,7 @@ const SEED: u64 = 180;
 
 /// Rounds of a line: as many as fit into its time, within these bounds.
 const LINE_TIME: Duration = Duration::from_millis(2_400);
-const FEWEST_ROUNDS: usize = 5;
+const FEWEST_ROUNDS: usize = 9;
 const MOST_ROUNDS: usize = 201;
 
 /// The words of the largest stored system.
