@@ -14,9 +14,9 @@ const SEED: u64 = 20;
 const EXCHANGES: usize = 4_000;
 const FILES: usize = 20_000;
 /// Exchanges of two files that are damaged at every byte and in other ways.
-const DAMAGED_EXCHANGES: usize = 250;
+const DAMAGED_EXCHANGES: usize = 1_000;
 /// Exchanges of two files with several faults at once.
-const FAULTY_EXCHANGES: usize = 20_000;
+const FAULTY_EXCHANGES: usize = 50_000;
 /// Stored systems whose words are damaged.
 const STORED_SYSTEMS: usize = 5_000;
 const PROGRESS_EVERY: usize = 250;
