@@ -5,13 +5,14 @@ mod lent;
 
 use crate::draw::{Dice, Shape, damage_table, damaged_file, exchange, random_up_to};
 use crate::implementation::{
-    Answer, Cause, Decision, Exchange, Extra, Failure, Implementation, Layer, Memory, Read, Refusal,
+    Answer, Cause, Decision, Exchange, Extra, Failure, Implementation, Layer, Likeness, Memory,
+    Read, Refusal,
 };
 use crate::naive::{self, Game, Relation};
 use counts::Counts;
 
 const SEED: u64 = 20;
-const EXCHANGES: usize = 4_000;
+const EXCHANGES: usize = 10_000;
 const FILES: usize = 20_000;
 /// Exchanges of two files that are damaged at every byte and in other ways.
 const DAMAGED_EXCHANGES: usize = 1_000;
@@ -247,12 +248,29 @@ struct Trial<'a> {
     table: Vec<u32>,
 }
 
+/// What an exchange is made of.
+fn sort_of(exchange: &Exchange) -> String {
+    let sides = match (&exchange.old, &exchange.new) {
+        (Layer::File(_), Layer::File(_)) => "files",
+        (Layer::Joint(..), Layer::Joint(..)) => "joints",
+        (Layer::Coded(..), Layer::Coded(..)) => "code lists",
+        (Layer::Buffer(_), Layer::Buffer(_)) => "buffers",
+        _ => "different layers",
+    };
+    let likeness = match exchange.likeness {
+        Likeness::Exact => "equality",
+        Likeness::Within(_) => "tolerances",
+        Likeness::SeaState(_) => "sea state",
+    };
+    format!("exchanges of {sides} by {likeness}")
+}
+
 fn compare_exchange(implementation: &dyn Implementation, dice: &mut Dice, counts: &mut Counts) {
     let exchange = &exchange::exchange(dice);
     compare_write(implementation, &exchange.old, dice, counts);
     compare_write(implementation, &exchange.new, dice, counts);
     if !implementation.offers_exchange(exchange) {
-        counts.pass_over("exchanges of layers, or by sea state");
+        counts.pass_over(sort_of(exchange));
         return;
     }
     let game = Game::new(exchange);
@@ -270,7 +288,10 @@ fn compare_exchange(implementation: &dyn Implementation, dice: &mut Dice, counts
         counts.pass_over("runs");
     }
     match trial.game.refused() {
-        Some(refusal) => trial.compare_refused(refusal, trial.game.pairs(), counts),
+        Some(refusal) => {
+            let agrees = trial.compare_refused(refusal, trial.game.pairs(), counts);
+            counts.note(sort_of(exchange), agrees, String::new);
+        }
         None => {
             trial.compare_refused(4, trial.game.pairs() - 1, counts);
             let largest = trial.game.largest();
@@ -332,8 +353,9 @@ impl Trial<'_> {
         counts.note("tables of runs", self.table == expected_table, tell);
     }
 
-    /// Compares calls that are all refused, on a table of the given length.
-    fn compare_refused(&mut self, refusal: Refusal, length: usize, counts: &mut Counts) {
+    /// Compares calls that are all refused, on a table of the given length;
+    /// tells whether they agreed.
+    fn compare_refused(&mut self, refusal: Refusal, length: usize, counts: &mut Counts) -> bool {
         let (implementation, exchange) = (self.implementation, self.exchange);
         self.table = vec![UNTOUCHED_ENTRY; length];
         let mut memory = self.memory();
@@ -347,6 +369,7 @@ impl Trial<'_> {
         let tell = || format!("{exchange:?}: {decided:?}, {checked:?}, {ranked:?}");
         counts.note(format!("exchanges refused with {refusal:>2}"), agrees, tell);
         counts.note("tables of refused exchanges", untouched, tell);
+        agrees && untouched
     }
 
     /// Compares a decision, and leaves its table.
@@ -365,6 +388,7 @@ impl Trial<'_> {
 
         let exchange = self.exchange;
         let tell = || format!("{exchange:?} with {proposals:?}: {decided:?} for {expected:?}");
+        counts.note(sort_of(exchange), decided.as_ref() == Ok(&expected), tell);
         let replaces = largest.contains(&(0, 0));
         let standing = largest.len() as u32;
         let agrees = |test: &dyn Fn(&Decision) -> bool| decided.as_ref().is_ok_and(test);

@@ -22,7 +22,7 @@ impl Layer {
 }
 
 /// A code list on a channel: entries (from, to), at most eight, and a cut.
-#[derive(Clone, Debug)]
+#[derive(Clone, Debug, PartialEq, Eq)]
 pub struct Codes {
     pub channel: u8,
     pub cut: i16,

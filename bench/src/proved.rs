@@ -1,7 +1,10 @@
 //! The proved library through its C interface, `include/cunaweho.h`. It takes
 //! exchanges of two files by tolerances, without proposals, and writes stored
-//! systems.
+//! systems. With the feature `layered` a second library, which is there for
+//! this comparison only, takes joints of two files and code lists over a file.
 
+#[cfg(feature = "layered")]
+use crate::implementation::Codes;
 use crate::implementation::{
     Accepted, Answer, Call, Decision, Exchange, Extra, Failure, Implementation, Layer, Likeness,
     Memory, Pair, Proposal, Read, ReadFault, Refusal,
@@ -146,60 +149,243 @@ unsafe extern "C" {
     ) -> RanksAnswer;
 }
 
-/// The files and tolerances of an exchange that the library takes.
-struct Lent<'a> {
-    old: &'a [u8],
-    new: &'a [u8],
-    tolerances: Tolerances,
+/// `struct layered_code`.
+#[cfg(feature = "layered")]
+#[repr(C)]
+struct Code {
+    from: i16,
+    to: i16,
 }
 
-impl<'a> Lent<'a> {
+// The calls over joints of two stored systems and over code lists, which lie in
+// words. Both sides have the same code list.
+#[cfg(feature = "layered")]
+#[link(name = "layered", kind = "static")]
+unsafe extern "C" {
+    fn layered_decide_joints(
+        tolerances: *const Tolerances,
+        first_old: *const u16,
+        first_old_len: usize,
+        second_old: *const u16,
+        second_old_len: usize,
+        first_new: *const u16,
+        first_new_len: usize,
+        second_new: *const u16,
+        second_new_len: usize,
+        table: *mut u32,
+        table_len: usize,
+    ) -> DecisionAnswer;
+
+    fn layered_check_joints(
+        tolerances: *const Tolerances,
+        first_old: *const u16,
+        first_old_len: usize,
+        second_old: *const u16,
+        second_old_len: usize,
+        first_new: *const u16,
+        first_new_len: usize,
+        second_new: *const u16,
+        second_new_len: usize,
+        table: *const u32,
+        table_len: usize,
+    ) -> CertificateAnswer;
+
+    fn layered_rank_joints(
+        tolerances: *const Tolerances,
+        first_old: *const u16,
+        first_old_len: usize,
+        second_old: *const u16,
+        second_old_len: usize,
+        first_new: *const u16,
+        first_new_len: usize,
+        second_new: *const u16,
+        second_new_len: usize,
+        table: *mut u32,
+        table_len: usize,
+    ) -> RanksAnswer;
+
+    fn layered_decide_coded(
+        tolerances: *const Tolerances,
+        old_words: *const u16,
+        old_words_len: usize,
+        new_words: *const u16,
+        new_words_len: usize,
+        codes: *const Code,
+        codes_len: usize,
+        channel: u8,
+        cut: i16,
+        table: *mut u32,
+        table_len: usize,
+    ) -> DecisionAnswer;
+
+    fn layered_check_coded(
+        tolerances: *const Tolerances,
+        old_words: *const u16,
+        old_words_len: usize,
+        new_words: *const u16,
+        new_words_len: usize,
+        codes: *const Code,
+        codes_len: usize,
+        channel: u8,
+        cut: i16,
+        table: *const u32,
+        table_len: usize,
+    ) -> CertificateAnswer;
+
+    fn layered_rank_coded(
+        tolerances: *const Tolerances,
+        old_words: *const u16,
+        old_words_len: usize,
+        new_words: *const u16,
+        new_words_len: usize,
+        codes: *const Code,
+        codes_len: usize,
+        channel: u8,
+        cut: i16,
+        table: *mut u32,
+        table_len: usize,
+    ) -> RanksAnswer;
+}
+
+/// The sides of an exchange that the libraries take.
+enum Sides<'a> {
+    Files(&'a [u8], &'a [u8]),
+    #[cfg(feature = "layered")]
+    Joints([&'a [u8]; 2], [&'a [u8]; 2]),
+    #[cfg(feature = "layered")]
+    Coded(&'a [u8], &'a [u8], &'a Codes),
+}
+
+impl<'a> Sides<'a> {
     fn of(exchange: &'a Exchange) -> Option<Self> {
-        let (Layer::File(old), Layer::File(new)) = (&exchange.old, &exchange.new) else {
-            return None;
-        };
-        let channels = match exchange.likeness {
-            Likeness::Exact => [0; CHANNELS],
-            Likeness::Within(tolerances) => tolerances,
-            Likeness::SeaState(_) => return None,
-        };
-        let tolerances = Tolerances { channels };
-        Some(Lent {
-            old,
-            new,
-            tolerances,
-        })
-    }
-
-    fn of_offered(exchange: &'a Exchange) -> Self {
-        Self::of(exchange).expect("only exchanges that are offered are asked for")
+        match (&exchange.old, &exchange.new) {
+            (Layer::File(old), Layer::File(new)) => Some(Sides::Files(old, new)),
+            #[cfg(feature = "layered")]
+            (Layer::Joint(first_old, second_old), Layer::Joint(first_new, second_new)) => {
+                let old = [file_of(first_old)?, file_of(second_old)?];
+                let new = [file_of(first_new)?, file_of(second_new)?];
+                Some(Sides::Joints(old, new))
+            }
+            #[cfg(feature = "layered")]
+            (Layer::Coded(old, codes), Layer::Coded(new, others)) if codes == others => {
+                Some(Sides::Coded(file_of(old)?, file_of(new)?, codes))
+            }
+            _ => None,
+        }
     }
 }
 
-/// Makes one of the calls on an exchange.
+#[cfg(feature = "layered")]
+fn file_of(layer: &Layer) -> Option<&[u8]> {
+    match layer {
+        Layer::File(bytes) => Some(bytes),
+        _ => None,
+    }
+}
+
+fn tolerances_of(likeness: &Likeness) -> Option<Tolerances> {
+    match *likeness {
+        Likeness::Exact => Some(Tolerances {
+            channels: [0; CHANNELS],
+        }),
+        Likeness::Within(channels) => Some(Tolerances { channels }),
+        Likeness::SeaState(_) => None,
+    }
+}
+
+/// The sides and the tolerances of an exchange that is offered.
+fn lent(exchange: &Exchange) -> (Sides<'_>, Tolerances) {
+    Sides::of(exchange)
+        .zip(tolerances_of(&exchange.likeness))
+        .expect("only exchanges that are offered are asked for")
+}
+
+/// Reads two files one behind the other; tells the words of each.
+#[cfg(feature = "layered")]
+fn read_both<'w>(
+    files: [&[u8]; 2],
+    words: &'w mut [u16],
+) -> Result<(&'w [u16], &'w [u16]), ReadFault> {
+    let first = Proved.read(files[0], 0, words, 0)?.words;
+    Proved.read(files[1], 0, words, first)?;
+    Ok(words.split_at(first))
+}
+
+/// Makes a call on an exchange: the function for two files, or that for joints
+/// or code lists. `$pointer` gives the pointer of the table.
 macro_rules! call {
-    ($function:ident, $exchange:expr, $memory:expr, $table:ident) => {{
-        let lent = Lent::of_offered($exchange);
+    ($files:ident, $joints:ident, $coded:ident, $exchange:expr, $memory:expr, $pointer:ident) => {{
+        let (sides, tolerances) = lent($exchange);
         let (old_words, new_words) = (&mut *$memory.old_words, &mut *$memory.new_words);
         let table = &mut *$memory.table;
-        // SAFETY: each pointer is that of a slice or reference that is borrowed
-        // up to the end of the call, with the slice's length; those that are
-        // written through are of slices that are borrowed mutably, so that
-        // nothing overlaps them.
-        unsafe {
-            $function(
-                lent.old.as_ptr(),
-                lent.old.len(),
-                lent.new.as_ptr(),
-                lent.new.len(),
-                &lent.tolerances,
-                old_words.as_mut_ptr(),
-                old_words.len(),
-                new_words.as_mut_ptr(),
-                new_words.len(),
-                table.$table(),
-                table.len(),
-            )
+        match sides {
+            // SAFETY: each pointer is that of a slice or reference that is
+            // borrowed up to the end of the call, with the slice's length;
+            // those that are written through are of slices that are borrowed
+            // mutably, so that nothing overlaps them.
+            Sides::Files(old, new) => unsafe {
+                $files(
+                    old.as_ptr(),
+                    old.len(),
+                    new.as_ptr(),
+                    new.len(),
+                    &tolerances,
+                    old_words.as_mut_ptr(),
+                    old_words.len(),
+                    new_words.as_mut_ptr(),
+                    new_words.len(),
+                    table.$pointer(),
+                    table.len(),
+                )
+            },
+            #[cfg(feature = "layered")]
+            Sides::Joints(old, new) => {
+                let old = read_both(old, old_words).map_err(Failure::OldFile)?;
+                let new = read_both(new, new_words).map_err(Failure::NewFile)?;
+                // SAFETY: as above.
+                unsafe {
+                    $joints(
+                        &tolerances,
+                        old.0.as_ptr(),
+                        old.0.len(),
+                        old.1.as_ptr(),
+                        old.1.len(),
+                        new.0.as_ptr(),
+                        new.0.len(),
+                        new.1.as_ptr(),
+                        new.1.len(),
+                        table.$pointer(),
+                        table.len(),
+                    )
+                }
+            }
+            #[cfg(feature = "layered")]
+            Sides::Coded(old, new, codes) => {
+                Proved
+                    .read(old, 0, old_words, 0)
+                    .map_err(Failure::OldFile)?;
+                Proved
+                    .read(new, 0, new_words, 0)
+                    .map_err(Failure::NewFile)?;
+                let code = |&(from, to): &(i16, i16)| Code { from, to };
+                let entries: Vec<Code> = codes.entries.iter().map(code).collect();
+                // SAFETY: as above.
+                unsafe {
+                    $coded(
+                        &tolerances,
+                        old_words.as_ptr(),
+                        old_words.len(),
+                        new_words.as_ptr(),
+                        new_words.len(),
+                        entries.as_ptr(),
+                        entries.len(),
+                        codes.channel,
+                        codes.cut,
+                        table.$pointer(),
+                        table.len(),
+                    )
+                }
+            }
         }
     }};
 }
@@ -335,7 +521,7 @@ impl Implementation for Proved {
     }
 
     fn offers_exchange(&self, exchange: &Exchange) -> bool {
-        Lent::of(exchange).is_some()
+        Sides::of(exchange).is_some() && tolerances_of(&exchange.likeness).is_some()
     }
 
     fn offers(&self, extra: Extra) -> bool {
@@ -403,7 +589,15 @@ impl Implementation for Proved {
         memory: &mut Memory,
     ) -> Result<Decision, Failure> {
         assert!(proposals.is_empty(), "proposals are not offered");
-        call!(cunaweho_decide, exchange, memory, as_mut_ptr).told()
+        call!(
+            cunaweho_decide,
+            layered_decide_joints,
+            layered_decide_coded,
+            exchange,
+            memory,
+            as_mut_ptr
+        )
+        .told()
     }
 
     fn run(&self, _: &Exchange, _: &[Call], _: &mut Memory) -> Result<Vec<Answer>, Failure> {
@@ -411,10 +605,26 @@ impl Implementation for Proved {
     }
 
     fn check(&self, exchange: &Exchange, memory: &mut Memory) -> Result<Accepted, Failure> {
-        call!(cunaweho_check, exchange, memory, as_ptr).told()
+        call!(
+            cunaweho_check,
+            layered_check_joints,
+            layered_check_coded,
+            exchange,
+            memory,
+            as_ptr
+        )
+        .told()
     }
 
     fn rank(&self, exchange: &Exchange, memory: &mut Memory) -> Result<u32, Failure> {
-        call!(cunaweho_rank, exchange, memory, as_mut_ptr).told()
+        call!(
+            cunaweho_rank,
+            layered_rank_joints,
+            layered_rank_coded,
+            exchange,
+            memory,
+            as_mut_ptr
+        )
+        .told()
     }
 }

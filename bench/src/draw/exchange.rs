@@ -104,6 +104,28 @@ fn tolerances(dice: &mut Dice) -> Likeness {
     Likeness::Within([(); 8].map(|()| dice.pick(&[0, 1, 4, 1_000])))
 }
 
+/// A joint of two files, now and then one that is too large for a docket.
+fn joint_of_files(dice: &mut Dice, tiny: Shape) -> Layer {
+    let part = match dice.below(20) {
+        0 => Shape { states: 17, ..tiny },
+        1 => Shape {
+            controller: 5,
+            ..tiny
+        },
+        2 => Shape {
+            environment: 5,
+            ..tiny
+        },
+        3 => Shape {
+            channels: 5,
+            ..tiny
+        },
+        _ => return Layer::joint(file(dice, tiny), file(dice, tiny)),
+    };
+    let mut file = || file_of(&random(dice, part));
+    Layer::joint(file(), file())
+}
+
 pub fn exchange(dice: &mut Dice) -> Exchange {
     let (likeness, readings) = likeness(dice);
     let small = Shape {
@@ -120,7 +142,7 @@ pub fn exchange(dice: &mut Dice) -> Exchange {
         environment: 2,
         readings,
     };
-    let (old, new) = match dice.below(11) {
+    let (old, new) = match dice.below(13) {
         0..=4 => two_files(dice, small),
         5 => {
             let mut side = || {
@@ -146,16 +168,18 @@ pub fn exchange(dice: &mut Dice) -> Exchange {
             };
             (old, new)
         }
-        7 => {
+        7 | 11 => {
             let draft = random_up_to(dice, small);
+            let shared = dice.once_in(2).then(|| codes(dice, readings));
             let mut side = || {
                 let copy = near_copy(dice, &draft, readings);
-                let codes = codes(dice, readings);
+                let codes = shared.clone().unwrap_or_else(|| codes(dice, readings));
                 Layer::coded(file_of(&copy), codes)
             };
             (side(), side())
         }
         8 => (layer(dice, tiny, 2), layer(dice, tiny, 2)),
+        12 => (joint_of_files(dice, tiny), joint_of_files(dice, tiny)),
         // Many of the others are refused.
         9 => {
             let large = Layer::joint(
