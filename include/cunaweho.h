@@ -166,6 +166,8 @@ struct cunaweho_ranks {
  *
  * Granted: the words of the system, from `at` on, hold it; all others are as
  * they were. Refused: all words are as they were.
+ *
+ * Takes less than 4 KB of stack.
  */
 struct cunaweho_read cunaweho_read_system(
     const uint8_t *bytes, size_t bytes_len, size_t place,
@@ -182,6 +184,8 @@ struct cunaweho_read cunaweho_read_system(
  *
  * Granted: the file stands at the front of the bytes, and those behind it are
  * as they were. Refused: all bytes are as they were.
+ *
+ * Takes less than 4 KB of stack.
  */
 struct cunaweho_written cunaweho_write_system(
     const uint16_t *words, size_t words_len,

@@ -10,6 +10,9 @@ use crate::naive::{self, Game, Rooms};
 /// Tolerances that are refused, and one that is just granted.
 const WIDE_TOLERANCES: [u16; 3] = [1_001, 32_768, u16::MAX];
 const MOST_TOLERANCE: u16 = 1_000;
+/// Bytes that are 0, one above the most moves, and on either side of the bound
+/// for the last byte of a number.
+const TELLING_BYTES: [u8; 5] = [0, 17, 0x7F, 0x80, 0xFF];
 
 /// What a call is lent, and how it is left.
 #[derive(Clone, PartialEq, Eq)]
@@ -215,10 +218,7 @@ fn with_damaged_files(whole: &Case, dice: &mut Dice) -> Vec<Case> {
     let mut damage = |file: &[u8], with: &dyn Fn(Vec<u8>) -> Case| {
         for place in 0..file.len() {
             cases.push(with(file[..place].to_vec()));
-            for byte in [
-                dice.below(256) as u8,
-                dice.pick(&[0, 0x11, 0x7F, 0x80, 0xFF]),
-            ] {
+            for byte in [dice.below(256) as u8, dice.pick(&TELLING_BYTES)] {
                 let mut damaged = file.to_vec();
                 damaged[place] = byte;
                 cases.push(with(damaged));
