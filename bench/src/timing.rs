@@ -225,32 +225,27 @@ impl Timing<'_> {
             .collect();
 
         // A call of each tells what it answers, and how many rounds fit.
-        eprint!("\rline {number:>2}, {name:<45}");
+        let progress = |done: String| eprint!("\rline {number:>2}, {name:<45} {done:>18} ");
+        progress(String::new());
         let start = Instant::now();
         let answers: Vec<T> = offering.iter_mut().map(|(_, desk)| call(desk)).collect();
         let rounds = rounds_that_fit(start.elapsed());
 
         let mut times = vec![Vec::new(); offering.len()];
         for round in 0..rounds {
-            eprint!("\rline {number:>2}, {name:<45} {round:>3} of {rounds} rounds ");
-            for turn in 0..offering.len() {
-                let which = (round + turn) % offering.len();
-                let start = Instant::now();
-                black_box(call(offering[which].1));
-                times[which].push(start.elapsed());
-            }
+            progress(format!("{round} of {rounds} rounds"));
+            time_round(&mut offering, &mut times, round, &call);
         }
 
         assert_same(name, &offering, &answers);
+        let offered: Vec<usize> = offering.iter().map(|(index, _)| *index).collect();
         let mut line = Line {
             name: name.into(),
             rounds,
-            times: Vec::new(),
+            times: vec![None; self.desks.len()],
             result: answers.first().map_or("-".into(), tell),
         };
-        let indices: Vec<usize> = offering.iter().map(|(index, _)| *index).collect();
-        line.times.resize(self.desks.len(), None);
-        for (index, times) in indices.into_iter().zip(times) {
+        for (index, times) in offered.into_iter().zip(times) {
             line.times[index] = Some(Times::of(times));
         }
         self.lines.push(line);
@@ -346,6 +341,21 @@ impl Timing<'_> {
             },
             |highest| format!("highest {highest}"),
         );
+    }
+}
+
+/// Times a call of each. The one that is called first changes by the round.
+fn time_round<T>(
+    offering: &mut [(usize, &mut Desk)],
+    times: &mut [Vec<Duration>],
+    round: usize,
+    call: impl Fn(&mut Desk) -> T,
+) {
+    for turn in 0..offering.len() {
+        let which = (round + turn) % offering.len();
+        let start = Instant::now();
+        black_box(call(offering[which].1));
+        times[which].push(start.elapsed());
     }
 }
 
