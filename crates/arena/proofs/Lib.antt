@@ -1,3 +1,4 @@
 pub mod Bounds
 pub mod Refuting
 pub mod Simulation
+pub mod Slots

@@ -1,5 +1,6 @@
 pub mod Arena
 pub mod Bounds
 pub mod Exchange
+pub mod Gathered
 pub mod Pairs
 pub mod Table

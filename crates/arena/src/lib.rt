@@ -5,6 +5,7 @@ mod arena;
 mod board;
 mod cause;
 mod exchange;
+mod gathered;
 mod refutation;
 mod table;
 
@@ -12,4 +13,5 @@ pub use arena::Arena;
 pub use board::Board;
 pub use cause::Cause;
 pub use exchange::Exchange;
+pub use gathered::Gathered;
 pub use table::{STANDING, entry_of, number_of_pairs, place_of};

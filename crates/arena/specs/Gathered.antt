@@ -1,0 +1,14 @@
+-- What is gathered of a system.
+use Rattle.std.specs.Prelude.{◌≡◌, ℕ, ◌*◌, ◌/◌, ◌%◌, ◌<◌, List, slice_index}
+
+-- the first n slots hold what the function says of their places
+abbrev pub Answers : (ℕ → ℕ) → ℕ → List ℕ → Type 0
+Answers f n slots = (k : ℕ) → k < n → slice_index slots k ≡ f k
+
+-- where the moves lead that have slot k: state, controller move and environment move are digits of k
+abbrev pub next_at : (ℕ → ℕ → ℕ → ℕ) → ℕ → ℕ
+next_at to k = to (k / 256) (k / 16 % 16) (k % 16)
+
+-- the slots hold where the moves lead from the first n states
+abbrev pub LeadsTo : (ℕ → ℕ → ℕ → ℕ) → ℕ → List ℕ → Type 0
+LeadsTo to n slots = Answers (next_at to) (n * 256) slots
