@@ -38,12 +38,15 @@ impl<A: Arena> Board<'_, A> {
     {
         let arena = self.arena;
         let (old_state, new_state) = pair;
+        let replies = arena.new_controller_moves(new_state);
+        let answers = arena.new_environment_moves(new_state);
+        let environments = arena.old_environment_moves(old_state);
         // by a rule of this project four nested loops, three with labels, left from inside where a reply is spoilt
         'moves: for controller in moves {
-            'replies: for reply in 0..arena.new_controller_moves(new_state) {
-                'answers: for answer in 0..arena.new_environment_moves(new_state) {
+            'replies: for reply in 0..replies {
+                'answers: for answer in 0..answers {
                     let to = arena.new_next(new_state, reply, answer);
-                    for environment in 0..arena.old_environment_moves(old_state) {
+                    for environment in 0..environments {
                         let from = arena.old_next(old_state, controller, environment);
                         if !self.is_struck(before, (from, to)) {
                             continue 'answers;

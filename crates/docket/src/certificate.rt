@@ -7,7 +7,7 @@ ghost use Rattle.docket.specs.declared.certificate.CertificateFault.TheVariants.
 use crate::fit::check_opening;
 use crate::refusal::Refusal;
 use crate::table::number_standing;
-use arena::{Arena, Board, STANDING};
+use arena::{Arena, Board, Gathered, STANDING};
 
 /// What a table that is accepted shows.
 #[derive(Clone, Copy, Debug, PartialEq, Eq)]
@@ -90,10 +90,14 @@ fn examine<A: Arena>(board: &Board<'_, A>) -> Result<Certificate, CertificateFau
     ensures { result ≡ certificate_says (A.Arena.view board.now.arena.now) board.now.table.now }
 {
     check_opening(board.arena, board.table.len())?;
-    check_pairs(board)?;
+    let gathered = Board {
+        arena: &Gathered::new(board.arena),
+        table: board.table,
+    };
+    check_pairs(&gathered)?;
     Ok(Certificate {
-        standing: number_standing(board),
-        replaces: board.start_stands(),
+        standing: number_standing(&gathered),
+        replaces: gathered.start_stands(),
     })
 }
 

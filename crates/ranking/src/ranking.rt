@@ -1,13 +1,13 @@
 //! Ranking the pairs: how soon each is refuted.
-ghost use Rattle.std.specs.Prelude.{◌≡◌, ◌&&◌, length, Some, None};
+ghost use Rattle.std.specs.Prelude.{◌≡◌, ◌≤◌, ◌&&◌, length, Some, None};
 ghost use Rattle.arena.specs.Pairs.{refuted};
 ghost use Rattle.arena.specs.Table.{pairs, stands, struck};
 ghost use Rattle.docket.specs.Refusals.{opening_refusal};
 ghost use Rattle.ranking.specs.Held.{holding};
-ghost use Rattle.ranking.specs.Rank.{RanksRight, rank_does, rank_round, rank_rounds, rank_says, sight_rank, sighted};
+ghost use Rattle.ranking.specs.Rank.{RanksRight, highest, rank_does, rank_round, rank_rounds, rank_says, ranked, sight_rank, sighted};
 
 use crate::table::RankTable;
-use arena::{Arena, STANDING};
+use arena::{Arena, Gathered, STANDING};
 use docket::{Refusal, check_opening};
 
 /// The rank of an unlike pair.
@@ -85,16 +85,25 @@ impl<A: Arena> RankTable<'_, A> {
     }
 }
 
+/// Writes every pair's rank, in a table with room for them, and answers the highest.
+fn write_in_rounds<A: Arena>(arena: &A, table: &mut [u32]) -> u32
+    requires { pairs (A.Arena.view arena.now) ≤ length table.old }
+    ensures highest { result ≡ highest (A.Arena.view arena.now) (ranked (A.Arena.view arena.now) table.old) }
+    ensures after { table.new ≡ ranked (A.Arena.view arena.now) table.old }
+{
+    let mut ranks = RankTable { arena, table };
+    ranks.sight_round();
+    ranks.rank_rounds();
+    ranks.highest_entry()
+}
+
 /// Writes every pair's rank and answers the highest, unless the systems or the table do not serve.
 fn write_ranks<A: Arena>(arena: &A, table: &mut [u32]) -> Result<u32, Refusal>
     ensures answer { result ≡ rank_says (A.Arena.view arena.now) table.old }
     ensures after { table.new ≡ rank_does (A.Arena.view arena.now) table.old }
 {
     check_opening(arena, table.len())?;
-    let mut ranks = RankTable { arena, table };
-    ranks.sight_round();
-    ranks.rank_rounds();
-    Ok(ranks.highest_entry())
+    Ok(write_in_rounds(&Gathered::new(arena), table))
 }
 
 /// Writes every pair's rank: how soon it is refuted, where only pairs of smaller ranks count as struck. Answers the highest rank.

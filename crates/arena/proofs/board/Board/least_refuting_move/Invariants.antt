@@ -10,19 +10,16 @@ invariant-loop-environment g l =
     let A = g.A.Arena.view l.self.arena.now in
     (all_below l.environment (λ b. struck A l.self.table.now l.before (A.old_next l.old_state l.controller b) (A.new_next l.new_state l.reply l.answer)) ≡ true)
     × (l.to ≡ A.new_next l.new_state l.reply l.answer)
-    × (l.environment-end ≡ A.old_environment_moves l.old_state)
 
 abbrev pub invariant-answers : goal.invariant-answers
 invariant-answers g l =
     let A = g.A.Arena.view l.self.arena.now in
-    (any_below l.answer (λ b'. spoils A (struck A l.self.table.now l.before) l.old_state l.new_state l.controller l.reply b') ≡ false)
-    × (l.answer-end ≡ A.new_environment_moves l.new_state)
+    any_below l.answer (λ b'. spoils A (struck A l.self.table.now l.before) l.old_state l.new_state l.controller l.reply b') ≡ false
 
 abbrev pub invariant-replies : goal.invariant-replies
 invariant-replies g l =
     let A = g.A.Arena.view l.self.arena.now in
-    (all_below l.reply (λ reply. spoilt A (struck A l.self.table.now l.before) l.old_state l.new_state l.controller reply) ≡ true)
-    × (l.reply-end ≡ A.new_controller_moves l.new_state)
+    all_below l.reply (λ reply. spoilt A (struck A l.self.table.now l.before) l.old_state l.new_state l.controller reply) ≡ true
 
 abbrev pub invariant-moves : goal.invariant-moves
 invariant-moves g l =
