@@ -171,6 +171,60 @@ impl<'a, A: Arena> Gathered<'a, A> {
             ),
         }
     }
+
+    /// What the arena below answers.
+    #[cold]
+    #[inline(never)]
+    fn old_controller_moves_below(&self, state: u16) -> u16
+        ensures { result ≡ (A.Arena.view self.now.arena.now).old_controller_moves state }
+    {
+        self.arena.old_controller_moves(state)
+    }
+
+    /// What the arena below answers.
+    #[cold]
+    #[inline(never)]
+    fn old_environment_moves_below(&self, state: u16) -> u16
+        ensures { result ≡ (A.Arena.view self.now.arena.now).old_environment_moves state }
+    {
+        self.arena.old_environment_moves(state)
+    }
+
+    /// What the arena below answers.
+    #[cold]
+    #[inline(never)]
+    fn old_next_below(&self, state: u16, controller: u16, environment: u16) -> u16
+        ensures { result ≡ (A.Arena.view self.now.arena.now).old_next state controller environment }
+    {
+        self.arena.old_next(state, controller, environment)
+    }
+
+    /// What the arena below answers.
+    #[cold]
+    #[inline(never)]
+    fn new_controller_moves_below(&self, state: u16) -> u16
+        ensures { result ≡ (A.Arena.view self.now.arena.now).new_controller_moves state }
+    {
+        self.arena.new_controller_moves(state)
+    }
+
+    /// What the arena below answers.
+    #[cold]
+    #[inline(never)]
+    fn new_environment_moves_below(&self, state: u16) -> u16
+        ensures { result ≡ (A.Arena.view self.now.arena.now).new_environment_moves state }
+    {
+        self.arena.new_environment_moves(state)
+    }
+
+    /// What the arena below answers.
+    #[cold]
+    #[inline(never)]
+    fn new_next_below(&self, state: u16, controller: u16, environment: u16) -> u16
+        ensures { result ≡ (A.Arena.view self.now.arena.now).new_next state controller environment }
+    {
+        self.arena.new_next(state, controller, environment)
+    }
 }
 
 impl<A: Arena> Arena for Gathered<'_, A> {
@@ -197,42 +251,42 @@ impl<A: Arena> Arena for Gathered<'_, A> {
     fn old_controller_moves(&self, state: u16) -> u16 {
         match self.old.controller_moves(state) {
             Some(moves) => moves,
-            None => self.arena.old_controller_moves(state),
+            None => self.old_controller_moves_below(state),
         }
     }
 
     fn old_environment_moves(&self, state: u16) -> u16 {
         match self.old.environment_moves(state) {
             Some(moves) => moves,
-            None => self.arena.old_environment_moves(state),
+            None => self.old_environment_moves_below(state),
         }
     }
 
     fn new_controller_moves(&self, state: u16) -> u16 {
         match self.new.controller_moves(state) {
             Some(moves) => moves,
-            None => self.arena.new_controller_moves(state),
+            None => self.new_controller_moves_below(state),
         }
     }
 
     fn new_environment_moves(&self, state: u16) -> u16 {
         match self.new.environment_moves(state) {
             Some(moves) => moves,
-            None => self.arena.new_environment_moves(state),
+            None => self.new_environment_moves_below(state),
         }
     }
 
     fn old_next(&self, state: u16, controller: u16, environment: u16) -> u16 {
         match self.old.next(state, controller, environment) {
             Some(next) => next,
-            None => self.arena.old_next(state, controller, environment),
+            None => self.old_next_below(state, controller, environment),
         }
     }
 
     fn new_next(&self, state: u16, controller: u16, environment: u16) -> u16 {
         match self.new.next(state, controller, environment) {
             Some(next) => next,
-            None => self.arena.new_next(state, controller, environment),
+            None => self.new_next_below(state, controller, environment),
         }
     }
 }

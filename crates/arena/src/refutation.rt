@@ -11,6 +11,7 @@ use std::ops::Range;
 
 /// Whether the entry counts as struck: any but 0, or only those from 1 to below a number.
 // It is told a number and no closure that decides: contracts of four functions name the pairs that count by that number.
+#[inline(always)]
 fn counts(before: Option<u32>, entry: u32) -> bool
     ensures { result ≡ counts before entry }
 {
@@ -19,6 +20,7 @@ fn counts(before: Option<u32>, entry: u32) -> bool
 
 impl<A: Arena> Board<'_, A> {
     /// Whether the pair counts as struck.
+    #[inline(always)]
     fn is_struck(&self, before: Option<u32>, pair: (u16, u16)) -> bool
         ensures { result ≡ struck (A.Arena.view self.now.arena.now) self.now.table.now before pair.0 pair.1 }
     {
@@ -28,6 +30,7 @@ impl<A: Arena> Board<'_, A> {
     /// The least of the old controller's moves in the range that refutes the pair.
     ///
     /// A move refutes the pair if no reply of the new controller will do: its environment can spoil each, by a move after which only struck pairs are reached, whatever the old environment does.
+    #[inline(always)]
     pub fn least_refuting_move(
         &self,
         before: Option<u32>,
@@ -75,6 +78,7 @@ impl<A: Arena> Board<'_, A> {
 
     /// Whether some move of the old controller refutes the pair.
     #[tactic(auto, using(crate::proofs::Refuting::some_refutes))]
+    #[inline(always)]
     pub fn is_refuted(&self, before: Option<u32>, pair: (u16, u16)) -> bool
         ensures { result ≡ refuted (A.Arena.view self.now.arena.now) (struck (A.Arena.view self.now.arena.now) self.now.table.now before) pair.0 pair.1 }
     {
@@ -83,6 +87,7 @@ impl<A: Arena> Board<'_, A> {
     }
 
     /// Whether the pair is unlike, or some move refutes it.
+    #[inline(always)]
     fn is_faulty(&self, before: Option<u32>, pair: (u16, u16)) -> bool
         ensures { result ≡ faulty (A.Arena.view self.now.arena.now) (struck (A.Arena.view self.now.arena.now) self.now.table.now before) pair.0 pair.1 }
     {
