@@ -1,5 +1,5 @@
 -- What is gathered of a system.
-use Rattle.std.specs.Prelude.{◌≡◌, ℕ, ◌*◌, ◌/◌, ◌%◌, ◌<◌, List, slice_index}
+use Rattle.std.specs.Prelude.{◌≡◌, ℕ, ◌*◌, ◌/◌, ◌%◌, ◌<◌, ◌≤◌, List, slice_index}
 
 -- the first n slots hold what the function says of their places
 abbrev pub Answers : (ℕ → ℕ) → ℕ → List ℕ → Type 0
@@ -12,3 +12,7 @@ next_at to k = to (k / 256) (k / 16 % 16) (k % 16)
 -- the slots hold where the moves lead from the first n states
 abbrev pub LeadsTo : (ℕ → ℕ → ℕ → ℕ) → ℕ → List ℕ → Type 0
 LeadsTo to n slots = Answers (next_at to) (n * 256) slots
+
+-- no side has more than 16 moves at the first n states
+abbrev pub FewMoves : ℕ → List ℕ → List ℕ → Type 0
+FewMoves n controller environment = (w : ℕ) → w < n → (slice_index controller w ≤ 16) × (slice_index environment w ≤ 16)

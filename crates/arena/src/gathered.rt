@@ -1,6 +1,6 @@
 //! An arena that asks each question of the arena below once.
 ghost use Rattle.std.specs.Prelude.{◌≡◌, ℕ, ◌+◌, ◌*◌, ◌≤◌, length, IfSome};
-ghost use Rattle.arena.specs.Gathered.{Answers, LeadsTo};
+ghost use Rattle.arena.specs.Gathered.{Answers, FewMoves, LeadsTo};
 
 use crate::arena::Arena;
 use systems::{MAX_MOVES, MAX_STATES};
@@ -24,7 +24,8 @@ struct Moves {
     controller: [u16; STATE_SLOTS],
     environment: [u16; STATE_SLOTS],
     next: [u16; NEXT_SLOTS],
-    ghost few: { states ≤ 256 },
+    ghost few_states: { states ≤ 256 },
+    ghost few_moves: { FewMoves states controller environment },
 }
 
 /// The slot of a pair of moves at a state.
@@ -45,6 +46,22 @@ fn write_numbers<F: Fn(u16) -> u16>(slots: &mut [u16], states: u16, moves_at: F)
     for state in 0..states {
         slots[usize::from(state)] = moves_at(state);
     }
+}
+
+/// How many of the first states come before one at which a side has too many moves.
+fn count_few(controller: &[u16], environment: &[u16], states: u16) -> u16
+    requires controller { states ≤ length controller.now }
+    requires environment { states ≤ length environment.now }
+    ensures within { result ≤ states }
+    ensures few { FewMoves result controller.now environment.now }
+{
+    for state in 0..states {
+        let place = usize::from(state);
+        if controller[place] > MAX_MOVES || environment[place] > MAX_MOVES {
+            return state;
+        }
+    }
+    states
 }
 
 /// Writes into the slots where each pair of moves leads from each of so many states.
@@ -83,14 +100,16 @@ impl Moves {
     {
         let states = states.min(MAX_STATES);
         let mut moves = Moves {
-            states,
+            states: 0,
             controller: [0; STATE_SLOTS],
             environment: [0; STATE_SLOTS],
             next: [0; NEXT_SLOTS],
         };
         write_numbers(&mut moves.controller, states, controller_moves);
         write_numbers(&mut moves.environment, states, environment_moves);
-        write_next_states(&mut moves.next, states, next);
+        let few = count_few(&moves.controller, &moves.environment, states);
+        write_next_states(&mut moves.next, few, next);
+        moves.states = few;
         moves
     }
 
@@ -120,7 +139,11 @@ impl Moves {
     fn next(&self, state: u16, controller: u16, environment: u16) -> Option<u16>
         ensures { (to : ℕ → ℕ → ℕ → ℕ) → LeadsTo to self.now.states self.now.next → IfSome result (λ v. v ≡ to state controller environment) }
     {
-        if state < self.states && controller < MAX_MOVES && environment < MAX_MOVES {
+        let place = usize::from(state);
+        if state < self.states
+            && controller < self.controller[place]
+            && environment < self.environment[place]
+        {
             Some(self.next[slot_of(state, controller, environment)])
         } else {
             None
