@@ -1,5 +1,5 @@
 //! The refutation test: which pairs the struck ones refute, and by which move.
-ghost use Rattle.std.specs.Prelude.{◌≡◌};
+ghost use Rattle.std.specs.Prelude.{◌≡◌, Some, None};
 ghost use Rattle.arena.specs.Pairs.{refuted};
 ghost use Rattle.arena.specs.Table.{counts, struck, least_refuting, cause_of, faulty, in_order, loose};
 
@@ -31,12 +31,7 @@ impl<A: Arena> Board<'_, A> {
     ///
     /// A move refutes the pair if no reply of the new controller will do: its environment can spoil each, by a move after which only struck pairs are reached, whatever the old environment does.
     #[inline(always)]
-    pub fn least_refuting_move(
-        &self,
-        before: Option<u32>,
-        pair: (u16, u16),
-        moves: Range<u16>,
-    ) -> Option<u16>
+    fn search(&self, before: Option<u32>, pair: (u16, u16), moves: Range<u16>) -> Option<u16>
         ensures { result ≡ least_refuting (A.Arena.view self.now.arena.now) (struck (A.Arena.view self.now.arena.now) self.now.table.now before) pair.0 pair.1 moves.start moves.end }
     {
         let arena = self.arena;
@@ -64,6 +59,45 @@ impl<A: Arena> Board<'_, A> {
         None
     }
 
+    /// The search where every struck pair counts.
+    #[inline(never)]
+    fn search_by_all(&self, pair: (u16, u16), moves: Range<u16>) -> Option<u16>
+        ensures { result ≡ least_refuting (A.Arena.view self.now.arena.now) (struck (A.Arena.view self.now.arena.now) self.now.table.now None) pair.0 pair.1 moves.start moves.end }
+    {
+        self.search(None, pair, moves)
+    }
+
+    /// The search where only entries from 1 to below the number count.
+    #[inline(never)]
+    fn search_by_entries_before(
+        &self,
+        number: u32,
+        pair: (u16, u16),
+        moves: Range<u16>,
+    ) -> Option<u16>
+        ensures { result ≡ least_refuting (A.Arena.view self.now.arena.now) (struck (A.Arena.view self.now.arena.now) self.now.table.now (Some number)) pair.0 pair.1 moves.start moves.end }
+    {
+        self.search(Some(number), pair, moves)
+    }
+
+    /// The least of the old controller's moves in the range that refutes the pair.
+    ///
+    /// A move refutes the pair if no reply of the new controller will do: its environment can spoil each, by a move after which only struck pairs are reached, whatever the old environment does.
+    // Two functions, so that the innermost loop of each has one test of an entry, and no more variables than a processor keeps at hand.
+    pub fn least_refuting_move(
+        &self,
+        before: Option<u32>,
+        pair: (u16, u16),
+        moves: Range<u16>,
+    ) -> Option<u16>
+        ensures { result ≡ least_refuting (A.Arena.view self.now.arena.now) (struck (A.Arena.view self.now.arena.now) self.now.table.now before) pair.0 pair.1 moves.start moves.end }
+    {
+        match before {
+            None => self.search_by_all(pair, moves),
+            Some(number) => self.search_by_entries_before(number, pair, moves),
+        }
+    }
+
     /// What there is to strike the pair for: sight if it is unlike, else its least refuting move.
     pub fn cause(&self, pair: (u16, u16)) -> Option<Cause>
         ensures { result ≡ cause_of (A.Arena.view self.now.arena.now) self.now.table.now pair.0 pair.1 }
@@ -78,7 +112,6 @@ impl<A: Arena> Board<'_, A> {
 
     /// Whether some move of the old controller refutes the pair.
     #[tactic(auto, using(crate::proofs::Refuting::some_refutes))]
-    #[inline(always)]
     pub fn is_refuted(&self, before: Option<u32>, pair: (u16, u16)) -> bool
         ensures { result ≡ refuted (A.Arena.view self.now.arena.now) (struck (A.Arena.view self.now.arena.now) self.now.table.now before) pair.0 pair.1 }
     {
@@ -87,7 +120,6 @@ impl<A: Arena> Board<'_, A> {
     }
 
     /// Whether the pair is unlike, or some move refutes it.
-    #[inline(always)]
     fn is_faulty(&self, before: Option<u32>, pair: (u16, u16)) -> bool
         ensures { result ≡ faulty (A.Arena.view self.now.arena.now) (struck (A.Arena.view self.now.arena.now) self.now.table.now before) pair.0 pair.1 }
     {

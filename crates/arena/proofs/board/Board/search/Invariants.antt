@@ -3,7 +3,7 @@ use Rattle.systems.specs.Bounded.{all_below}
 use Rattle.arena.specs.Bounds.{any_below}
 use Rattle.arena.specs.Pairs.{spoils, spoilt}
 use Rattle.arena.specs.Table.{least_refuting, struck}
-use Rattle.arena.proofs.board.Board.least_refuting_move.Given as goal
+use Rattle.arena.proofs.board.Board.search.Given as goal
 
 abbrev pub invariant-loop-environment : goal.invariant-loop-environment
 invariant-loop-environment g l =

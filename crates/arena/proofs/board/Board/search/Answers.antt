@@ -4,7 +4,7 @@ use Rattle.arena.proofs.Bounds.{any_below_more, any_below_from, all_below_end, a
 use Rattle.arena.proofs.Refuting.{none_before, none_more, found, none_at_all, struck_there}
 use Rattle.arena.specs.Pairs.{refutes}
 use Rattle.arena.specs.Table.{struck}
-use Rattle.arena.proofs.board.Board.least_refuting_move.Goals as goal
+use Rattle.arena.proofs.board.Board.search.Goals as goal
 
 pub moves-init : goal.moves-init
 moves-init g c =
