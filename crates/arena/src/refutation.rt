@@ -34,7 +34,8 @@ impl<A: Arena> Board<'_, A> {
     fn search(&self, before: Option<u32>, pair: (u16, u16), moves: Range<u16>) -> Option<u16>
         ensures { result ≡ least_refuting (A.Arena.view self.now.arena.now) (struck (A.Arena.view self.now.arena.now) self.now.table.now before) pair.0 pair.1 moves.start moves.end }
     {
-        let arena = self.arena;
+        let board = *self;
+        let arena = board.arena;
         let (old_state, new_state) = pair;
         let replies = arena.new_controller_moves(new_state);
         let answers = arena.new_environment_moves(new_state);
@@ -46,7 +47,7 @@ impl<A: Arena> Board<'_, A> {
                     let to = arena.new_next(new_state, reply, answer);
                     for environment in 0..environments {
                         let from = arena.old_next(old_state, controller, environment);
-                        if !self.is_struck(before, (from, to)) {
+                        if !board.is_struck(before, (from, to)) {
                             continue 'answers;
                         }
                     }
