@@ -15,7 +15,7 @@ use crate::decision::{DecideError, Decision};
 use crate::outcome::Outcome;
 use crate::refusal::Refusal;
 use crate::strike::{Settlement, Strike};
-use arena::{Arena, Board};
+use arena::{Arena, Board, Gathered};
 use std::alloc::{AllocError, Global};
 
 /// The budget of each sweep of a decision.
@@ -98,7 +98,7 @@ impl Docket {
         ensures law { Judges (A.Arena.view arena.now) table.new result }
     {
         self.open(arena, table)?;
-        Ok(self.conclude(arena, table))
+        Ok(self.conclude(&Gathered::new(arena), table))
     }
 
     /// Decides, with the strikes as calls and room for their answers.
@@ -115,6 +115,7 @@ impl Docket {
         ensures { (strikes : List Strike) → calls.now ≡ proposals strikes → Decided (A.Arena.view arena.now) (position self.old table.old) strikes result (position self.new table.new) }
     {
         self.open(arena, table)?;
+        let arena = &Gathered::new(arena);
         let Ok(()) = self.run(arena, table, calls, &mut answers) else {
             unreachable()
         };
