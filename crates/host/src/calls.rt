@@ -7,20 +7,12 @@ ghost use Rattle.files.specs.Words.{put_at, system_words};
 ghost use Rattle.ranking.specs.Rank.{RanksRight};
 ghost use Rattle.hosting.specs.Calls.{check_says, decide_does, decide_says, rank_does, rank_says};
 ghost use Rattle.hosting.specs.Files.{Shows, filed, files_fault, laid_out, left_by, lent, room};
-ghost use Rattle.host.specs.Answers.{certificate_of, decision_of, ranks_of, read_of, written_of};
-ghost use Rattle.host.specs.Held.{held};
+ghost use Rattle.hosting.specs.Answers.{certificate_of, decision_of, ranks_of, read_of, written_of};
+ghost use Rattle.hosting.specs.Held.{held};
 
-use crate::answer::{Certificate, Decision, Ranks, Read, Written};
 use files::{read_system, write_system};
-use hosting::FiledExchange;
+use hosting::{Certificate, Decision, FiledExchange, Ranks, Read, Tolerances, Written};
 use systems::Stored;
-
-/// The tolerance of each channel.
-#[repr(C)]
-#[derive(Clone, Copy)]
-pub struct Tolerances {
-    pub channels: [u16; 8],
-}
 
 /// Reads a system file.
 #[unsafe(no_mangle)]

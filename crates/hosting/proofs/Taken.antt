@@ -89,10 +89,10 @@ opens e lent none =
     let second = or_else_none old (or_else new together) first.1 in
     let third = or_else_none new together second.1 in
     unmapped (opening_refusal (filed e) lent.entries) third.1
-    where
-      unmapped : (o : Option Refusal) → option_map (λ refusal. Exchange refusal) o ≡ None → o ≡ None
-      unmapped None h = refl
-      unmapped (Some refusal) h = cc
+  where
+    unmapped : (o : Option Refusal) → option_map (λ refusal. Exchange refusal) o ≡ None → o ≡ None
+    unmapped None h = refl
+    unmapped (Some refusal) h = cc
 
 -- what the calls answer and leave where the files have no fault
 module _ (e : Lent) (lent : Room) (table : List ℕ) (none : files_fault e lent ≡ None) (long : lent.entries ≡ length table) (A : Arena) (is : A ≡ filed e) where

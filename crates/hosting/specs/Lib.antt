@@ -1,4 +1,6 @@
+pub mod Answers
 pub mod Calls
 pub mod Fault
 pub mod Files
+pub mod Held
 pub mod Tested

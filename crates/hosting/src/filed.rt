@@ -11,7 +11,6 @@ ghost use Rattle.hosting.specs.declared.fault.FilesFault.TheVariants.{Tolerance}
 ghost use Rattle.hosting.specs.Tested.{IsTested};
 ghost use Rattle.hosting.specs.Files.{files_fault, laid_out, left_by, lent_by, room};
 
-
 use crate::fault::FilesFault;
 use docket::Refusal;
 use files::SystemFile;
@@ -34,11 +33,7 @@ fn number_of_pairs(old: &SystemFile<'_>, new: &SystemFile<'_>) -> usize
 
 /// Checks that a docket can be opened for the systems of two files, with a table of so many entries.
 #[tactic(auto, using(crate::proofs::Taken::opening_refused_for_channels, crate::proofs::Taken::opening_refused_for_table, crate::proofs::Taken::opening_granted))]
-fn check_together(
-    old: &SystemFile<'_>,
-    new: &SystemFile<'_>,
-    entries: usize,
-) -> Result<(), Refusal>
+fn check_together(old: &SystemFile<'_>, new: &SystemFile<'_>, entries: usize) -> Result<(), Refusal>
     requires old { Few (described old.now.bytes.now old.now.place) }
     requires new { Few (described new.now.bytes.now new.now.place) }
     ensures { (relation : ℕ → Reading → Reading → Bool) → result ≡ unless (opening_refusal (exchange (described old.now.bytes.now old.now.place) (described new.now.bytes.now new.now.place) relation) entries) tt }
@@ -83,7 +78,12 @@ impl<'a> FiledExchange<'a> {
     }
 
     /// Tests the tolerances, the files, and whether they serve together.
-    fn test(&self, old_words: usize, new_words: usize, entries: usize) -> Result<Tested<'a>, FilesFault>
+    fn test(
+        &self,
+        old_words: usize,
+        new_words: usize,
+        entries: usize,
+    ) -> Result<Tested<'a>, FilesFault>
         ensures answer { MatchResult result (λ _. files_fault (lent_by self.now) (room old_words new_words entries) ≡ None) (λ fault. files_fault (lent_by self.now) (room old_words new_words entries) ≡ Some fault) }
         ensures tested { IfOk result (λ tested. IsTested self.now old_words new_words tested) }
     {

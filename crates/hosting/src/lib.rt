@@ -1,11 +1,16 @@
-//! What a host asks of two system files: a decision, a certificate check or the ranks, in memory that it lends.
+//! What a host asks of two system files: a decision, a certificate check or the ranks, in memory that it lends; and the answers as they cross to C.
 #![tactic(auto)]
 
+mod answer;
 mod checking;
 mod deciding;
 mod fault;
 mod filed;
+mod item;
 mod ranking;
+mod refusal;
 
+pub use answer::{Certificate, Decision, Ranks, Read, Tolerances, Written};
 pub use fault::{CheckFault, FilesFault};
 pub use filed::FiledExchange;
+pub use refusal::Refusal;

@@ -1,12 +1,20 @@
-//! The answers that cross to C.
+//! What crosses between the calls and C.
 ghost use Rattle.std.specs.Prelude.{◌≡◌};
-ghost use Rattle.host.specs.Answers.{certificate_of, decision_of, ranks_of, read_of, written_of};
+ghost use Rattle.hosting.specs.Answers.{certificate_of, decision_of, ranks_of, read_of, written_of};
 
+use crate::fault::{CheckFault, FilesFault};
 use crate::item::Item;
 use crate::refusal::{Refusal, about, check_refusal, file_refusal, files_refusal, granted};
 use docket::{Certificate as Shown, Outcome};
 use files::{ReadFault, SystemRead, SystemWriteFault};
-use hosting::{CheckFault, FilesFault};
+use likeness::TOLERANCE_CHANNELS;
+
+/// The tolerance of each channel.
+#[repr(C)]
+#[derive(Clone, Copy)]
+pub struct Tolerances {
+    pub channels: [u16; TOLERANCE_CHANNELS],
+}
 
 /// What reading a file answers.
 #[repr(C)]
@@ -65,7 +73,7 @@ pub struct Ranks {
 
 impl Read {
     /// What crosses of a read.
-    pub(crate) fn of(read: Result<SystemRead, ReadFault>) -> Read
+    pub fn of(read: Result<SystemRead, ReadFault>) -> Read
         ensures { result ≡ read_of read }
     {
         match read {
@@ -85,7 +93,7 @@ impl Read {
 
 impl Written {
     /// What crosses of a write.
-    pub(crate) fn of(written: Result<usize, SystemWriteFault>) -> Written
+    pub fn of(written: Result<usize, SystemWriteFault>) -> Written
         ensures { result ≡ written_of written }
     {
         match written {
@@ -103,15 +111,17 @@ impl Written {
 
 impl Decision {
     /// What crosses of a decision.
-    pub(crate) fn of(decided: Result<Outcome, FilesFault>) -> Decision
+    pub fn of(decided: Result<Outcome, FilesFault>) -> Decision
         ensures { result ≡ decision_of decided }
     {
         match decided {
-            Ok(Outcome {
-                swept,
-                standing,
-                replaces,
-            }) => Decision {
+            Ok(
+                Outcome {
+                    swept,
+                    standing,
+                    replaces,
+                },
+            ) => Decision {
                 refusal: granted(),
                 swept,
                 standing,
@@ -129,7 +139,7 @@ impl Decision {
 
 impl Certificate {
     /// What crosses of a certificate check.
-    pub(crate) fn of(checked: Result<Shown, CheckFault>) -> Certificate
+    pub fn of(checked: Result<Shown, CheckFault>) -> Certificate
         ensures { result ≡ certificate_of checked }
     {
         match checked {
@@ -149,7 +159,7 @@ impl Certificate {
 
 impl Ranks {
     /// What crosses of a ranking.
-    pub(crate) fn of(ranked: Result<u32, FilesFault>) -> Ranks
+    pub fn of(ranked: Result<u32, FilesFault>) -> Ranks
         ensures { result ≡ ranks_of ranked }
     {
         match ranked {

@@ -1,11 +1,11 @@
 //! Why a call is refused, as C takes it.
 ghost use Rattle.std.specs.Prelude.{◌≡◌};
-ghost use Rattle.host.specs.Answers.{about, check_refusal, file_refusal, files_refusal, granted, pair_refusal, table_refusal};
+ghost use Rattle.hosting.specs.Answers.{about, check_refusal, file_refusal, files_refusal, granted, pair_refusal, table_refusal};
 
+use crate::fault::{CheckFault, FilesFault};
 use crate::item::Item;
 use docket::CertificateFault;
 use files::ReadFault;
-use hosting::{CheckFault, FilesFault};
 
 /// Why a call is refused.
 #[repr(C)]

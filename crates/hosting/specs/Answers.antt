@@ -15,14 +15,14 @@ use Rattle.hosting.specs.declared.fault.CheckFault.{CheckFault}
 use Rattle.hosting.specs.declared.fault.CheckFault.TheVariants.{Files, Table}
 use Rattle.hosting.specs.declared.fault.FilesFault.{FilesFault}
 use Rattle.hosting.specs.declared.fault.FilesFault.TheVariants.{Tolerance, OldFile, NewFile, Exchange}
-use Rattle.host.specs.declared.answer.Certificate.{Certificate}
-use Rattle.host.specs.declared.answer.Decision.{Decision}
-use Rattle.host.specs.declared.answer.Ranks.{Ranks}
-use Rattle.host.specs.declared.answer.Read.{Read}
-use Rattle.host.specs.declared.refusal.Refusal.{Refusal}
-use Rattle.host.specs.declared.answer.Written.{Written}
-use Rattle.host.specs.declared.item.Item.{Item}
-use Rattle.host.specs.declared.item.Item.TheVariants.{Nothing, Tolerances, OldFile as OldItem, NewFile as NewItem, Exchange as Together, Pair, File, System}
+use Rattle.hosting.specs.declared.answer.Certificate.{Certificate}
+use Rattle.hosting.specs.declared.answer.Decision.{Decision}
+use Rattle.hosting.specs.declared.answer.Ranks.{Ranks}
+use Rattle.hosting.specs.declared.answer.Read.{Read}
+use Rattle.hosting.specs.declared.refusal.Refusal.{Refusal}
+use Rattle.hosting.specs.declared.answer.Written.{Written}
+use Rattle.hosting.specs.declared.item.Item.{Item}
+use Rattle.hosting.specs.declared.item.Item.TheVariants.{Nothing, Tolerances, OldFile as OldItem, NewFile as NewItem, Exchange as Together, Pair, File, System}
 
 -- the number that stands for an item in C
 abbrev pub item_number : Item → ℕ
