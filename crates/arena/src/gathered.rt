@@ -1,8 +1,10 @@
 //! An arena that asks each question of the arena below once.
-ghost use Rattle.std.specs.Prelude.{◌≡◌, ℕ, ◌+◌, ◌*◌, ◌≤◌, length, IfSome};
+ghost use Rattle.std.specs.Prelude.{◌≡◌, ℕ, ◌+◌, ◌*◌, ◌≤◌, length, nat_le, IfSome};
 ghost use Rattle.arena.specs.Gathered.{Answers, FewMoves, LeadsTo};
+ghost use Rattle.arena.specs.Table.{pairs};
 
 use crate::arena::Arena;
+use crate::table::number_of_pairs;
 use systems::{MAX_MOVES, MAX_STATES};
 
 // Casts, since no `From` goes into a constant.
@@ -15,6 +17,16 @@ const PAIR_SLOTS: usize = MAX_MOVES as usize * MAX_MOVES as usize;
 
 /// How many slots the next states take.
 const NEXT_SLOTS: usize = STATE_SLOTS * PAIR_SLOTS;
+
+/// From so many pairs on, a visit of all of them saves more questions than gathering asks.
+const GATHERED_PAIRS: usize = 1_024;
+
+/// Whether it pays to gather the arena for a visit of all its pairs.
+pub fn pays_to_gather<A: Arena>(arena: &A) -> bool
+    ensures { result ≡ nat_le 1024 (pairs (A.Arena.view arena.now)) }
+{
+    number_of_pairs(arena) >= GATHERED_PAIRS
+}
 
 /// The moves at the first states of a system, and where they lead.
 #[derive(Drop)]

@@ -13,5 +13,5 @@ pub use arena::Arena;
 pub use board::Board;
 pub use cause::Cause;
 pub use exchange::Exchange;
-pub use gathered::Gathered;
+pub use gathered::{Gathered, pays_to_gather};
 pub use table::{STANDING, entry_of, number_of_pairs, place_of};

@@ -1,13 +1,14 @@
 //! The certificate check: whether a table, whoever wrote it, shows the largest simulation.
-ghost use Rattle.std.specs.Prelude.{◌≡◌};
-ghost use Rattle.docket.specs.Certificate.{Certifies, certificate_says, fault_number, first_fault, pair_fault};
+ghost use Rattle.std.specs.Prelude.{◌≡◌, ◌≤◌, length};
+ghost use Rattle.arena.specs.Table.{pairs};
+ghost use Rattle.docket.specs.Certificate.{Certifies, certificate, certificate_says, fault_number, first_fault, pair_fault};
 ghost use Rattle.docket.specs.Refusals.{unless};
 ghost use Rattle.docket.specs.declared.certificate.CertificateFault.TheVariants.{Refused};
 
 use crate::fit::check_opening;
 use crate::refusal::Refusal;
 use crate::table::number_standing;
-use arena::{Arena, Board, Gathered, STANDING};
+use arena::{Arena, Board, Gathered, STANDING, pays_to_gather};
 
 /// What a table that is accepted shows.
 #[derive(Clone, Copy, Debug, PartialEq, Eq)]
@@ -85,20 +86,45 @@ fn check_pairs<A: Arena>(board: &Board<'_, A>) -> Result<(), CertificateFault>
     Ok(())
 }
 
+/// Tests the pairs in turn.
+fn examine_pairs<A: Arena>(board: &Board<'_, A>) -> Result<Certificate, CertificateFault>
+    requires old { (A.Arena.view board.now.arena.now).old_states ≤ 256 }
+    requires new { (A.Arena.view board.now.arena.now).new_states ≤ 256 }
+    requires space { pairs (A.Arena.view board.now.arena.now) ≤ length board.now.table.now }
+    ensures { result ≡ unless (first_fault (A.Arena.view board.now.arena.now) board.now.table.now) (certificate (A.Arena.view board.now.arena.now) board.now.table.now) }
+{
+    check_pairs(board)?;
+    Ok(Certificate {
+        standing: number_standing(board),
+        replaces: board.start_stands(),
+    })
+}
+
+/// Tests the pairs in turn, over the gathered arena.
+// By itself, since only a call that gathers needs the stack for it.
+#[inline(never)]
+fn examine_gathered<A: Arena>(board: &Board<'_, A>) -> Result<Certificate, CertificateFault>
+    requires old { (A.Arena.view board.now.arena.now).old_states ≤ 256 }
+    requires new { (A.Arena.view board.now.arena.now).new_states ≤ 256 }
+    requires space { pairs (A.Arena.view board.now.arena.now) ≤ length board.now.table.now }
+    ensures { result ≡ unless (first_fault (A.Arena.view board.now.arena.now) board.now.table.now) (certificate (A.Arena.view board.now.arena.now) board.now.table.now) }
+{
+    examine_pairs(&Board {
+        arena: &Gathered::new(board.arena),
+        table: board.table,
+    })
+}
+
 /// Tests the systems and the table, then the pairs in turn.
 fn examine<A: Arena>(board: &Board<'_, A>) -> Result<Certificate, CertificateFault>
     ensures { result ≡ certificate_says (A.Arena.view board.now.arena.now) board.now.table.now }
 {
     check_opening(board.arena, board.table.len())?;
-    let gathered = Board {
-        arena: &Gathered::new(board.arena),
-        table: board.table,
-    };
-    check_pairs(&gathered)?;
-    Ok(Certificate {
-        standing: number_standing(&gathered),
-        replaces: gathered.start_stands(),
-    })
+    if pays_to_gather(board.arena) {
+        examine_gathered(board)
+    } else {
+        examine_pairs(board)
+    }
 }
 
 /// Checks a table, whoever wrote it: every struck pair must be unlike or refuted by smaller entries, and no standing pair loose.

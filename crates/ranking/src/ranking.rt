@@ -7,7 +7,7 @@ ghost use Rattle.ranking.specs.Held.{holding};
 ghost use Rattle.ranking.specs.Rank.{RanksRight, highest, rank_does, rank_round, rank_rounds, rank_says, ranked, sight_rank, sighted};
 
 use crate::table::RankTable;
-use arena::{Arena, Gathered, STANDING};
+use arena::{Arena, Gathered, STANDING, pays_to_gather};
 use docket::{Refusal, check_opening};
 
 /// The rank of an unlike pair.
@@ -97,13 +97,28 @@ fn write_in_rounds<A: Arena>(arena: &A, table: &mut [u32]) -> u32
     ranks.highest_entry()
 }
 
+/// Writes every pair's rank over the gathered arena, and answers the highest.
+// By itself, since only a call that gathers needs the stack for it.
+#[inline(never)]
+fn write_gathered<A: Arena>(arena: &A, table: &mut [u32]) -> u32
+    requires { pairs (A.Arena.view arena.now) ≤ length table.old }
+    ensures highest { result ≡ highest (A.Arena.view arena.now) (ranked (A.Arena.view arena.now) table.old) }
+    ensures after { table.new ≡ ranked (A.Arena.view arena.now) table.old }
+{
+    write_in_rounds(&Gathered::new(arena), table)
+}
+
 /// Writes every pair's rank and answers the highest, unless the systems or the table do not serve.
 fn write_ranks<A: Arena>(arena: &A, table: &mut [u32]) -> Result<u32, Refusal>
     ensures answer { result ≡ rank_says (A.Arena.view arena.now) table.old }
     ensures after { table.new ≡ rank_does (A.Arena.view arena.now) table.old }
 {
     check_opening(arena, table.len())?;
-    Ok(write_in_rounds(&Gathered::new(arena), table))
+    Ok(if pays_to_gather(arena) {
+        write_gathered(arena, table)
+    } else {
+        write_in_rounds(arena, table)
+    })
 }
 
 /// Writes every pair's rank: how soon it is refuted, where only pairs of smaller ranks count as struck. Answers the highest rank.
