@@ -23,16 +23,20 @@ loop-environment-preserved g c =
 pub answers-preserved : goal.answers-preserved
 answers-preserved g c =
     let A = g.A.Arena.view c.args.self.now.arena.now in
-    let gone = struck A c.args.self.now.table.now c.args.before in
-    any_below_more c.answers.answer _ c.answers.invariant
-    (all_below_false (A.old_environment_moves c.args.pair.0) c.loop-environment.environment _ (omega arith) (struck_there gone _ _ _ _ _ _ c.is_struck.ensures c.old_next-from.ensures c.loop-environment.invariant.1 c.if-not-is_struck.true))
+    let gone = struck A c.args.self.now.table.now c.args.before in (
+      any_below_more c.answers.answer _ c.answers.invariant.0
+          (all_below_false (A.old_environment_moves c.args.pair.0) c.loop-environment.environment _ (omega arith) (struck_there gone _ _ _ _ _ _ c.is_struck.ensures c.old_next-from.ensures c.loop-environment.invariant.1 c.if-not-is_struck.true)),
+      c.answers.invariant.1,
+    )
 
 pub replies-preserved : goal.replies-preserved
 replies-preserved g c =
-    let A = g.A.Arena.view c.args.self.now.arena.now in
-    all_below_more c.replies.reply _ c.replies.invariant
-    (any_below_from (A.new_environment_moves c.args.pair.1) c.answers.answer _ (omega arith)
-    (all_below_end c.loop-environment.environment (A.old_environment_moves c.args.pair.0) _ (omega arith) c.loop-environment.invariant.0))
+    let A = g.A.Arena.view c.args.self.now.arena.now in (
+      all_below_more c.replies.reply _ c.replies.invariant.0
+          (any_below_from (A.new_environment_moves c.args.pair.1) c.answers.answer _ (omega (arith, c.answers.invariant.1))
+          (all_below_end c.loop-environment.environment (A.old_environment_moves c.args.pair.0) _ (omega arith) c.loop-environment.invariant.0)),
+      c.replies.invariant.1,
+    )
 
 pub moves-preserved : goal.moves-preserved
 moves-preserved g c =
@@ -40,8 +44,8 @@ moves-preserved g c =
     let gone = struck A c.args.self.now.table.now c.args.before in
     let step = c.in-Some.ensures.steps in
     let replied : refutes A gone c.args.pair.0 c.args.pair.1 c.in-Some.controller ≡ false =
-    all_below_false (A.new_controller_moves c.args.pair.1) c.replies.reply _ (omega arith)
-    (any_below_end c.answers.answer (A.new_environment_moves c.args.pair.1) _ (omega arith) c.answers.invariant) in
+    all_below_false (A.new_controller_moves c.args.pair.1) c.replies.reply _ (omega (arith, c.replies.invariant.1))
+    (any_below_end c.answers.answer (A.new_environment_moves c.args.pair.1) _ (omega (arith, c.answers.invariant.1)) c.answers.invariant.0) in
     rw step.1.2 (
       none_more A gone c.args.pair.0 c.args.pair.1 c.args.moves.start c.moves.controller-iterator.start c.moves.invariant.0 (rw step.1.1 at replied),
       omega arith,
@@ -54,7 +58,7 @@ returns-in-moves g c =
     let gone = struck A c.args.self.now.table.now c.args.before in
     let step = c.in-Some.ensures.steps in
     let refuted : refutes A gone c.args.pair.0 c.args.pair.1 c.in-Some.controller ≡ true =
-    all_below_end c.replies.reply (A.new_controller_moves c.args.pair.1) _ (omega arith) c.replies.invariant in
+    all_below_end c.replies.reply (A.new_controller_moves c.args.pair.1) _ (omega arith) c.replies.invariant.0 in
     rw step.1.1 (sym (found A gone c.args.pair.0 c.args.pair.1 c.args.moves.start c.moves.controller-iterator.start c.args.moves.end (omega arith) (omega arith) c.moves.invariant.0 (rw step.1.1 at refuted)))
 
 pub returns : goal.returns

@@ -14,12 +14,14 @@ invariant-loop-environment g l =
 abbrev pub invariant-answers : goal.invariant-answers
 invariant-answers g l =
     let A = g.A.Arena.view l.self.arena.now in
-    any_below l.answer (λ b'. spoils A (struck A l.self.table.now l.before) l.old_state l.new_state l.controller l.reply b') ≡ false
+    (any_below l.answer (λ b'. spoils A (struck A l.self.table.now l.before) l.old_state l.new_state l.controller l.reply b') ≡ false)
+    × (l.answers ≡ A.new_environment_moves l.new_state)
 
 abbrev pub invariant-replies : goal.invariant-replies
 invariant-replies g l =
     let A = g.A.Arena.view l.self.arena.now in
-    all_below l.reply (λ reply. spoilt A (struck A l.self.table.now l.before) l.old_state l.new_state l.controller reply) ≡ true
+    (all_below l.reply (λ reply. spoilt A (struck A l.self.table.now l.before) l.old_state l.new_state l.controller reply) ≡ true)
+    × (l.replies ≡ A.new_controller_moves l.new_state)
 
 abbrev pub invariant-moves : goal.invariant-moves
 invariant-moves g l =
