@@ -1,5 +1,5 @@
 //! An arena that asks each question of the arena below once.
-ghost use Rattle.std.specs.Prelude.{◌≡◌, ℕ, ◌+◌, ◌*◌, ◌≤◌, length, nat_le, IfSome};
+ghost use Rattle.std.specs.Prelude.{◌≡◌, ℕ, ◌+◌, ◌*◌, ◌<◌, ◌≤◌, length, nat_le, IfSome};
 ghost use Rattle.arena.specs.Gathered.{Answers, FewMoves, LeadsTo};
 ghost use Rattle.arena.specs.Table.{pairs};
 
@@ -35,7 +35,8 @@ struct Moves {
     states: u16,
     controller: [u16; STATE_SLOTS],
     environment: [u16; STATE_SLOTS],
-    next: [u16; NEXT_SLOTS],
+    // of at most 256 states, so that a byte tells each
+    next: [u8; NEXT_SLOTS],
     ghost few_states: { states ≤ 256 },
     ghost few_moves: { FewMoves states controller environment },
 }
@@ -77,26 +78,28 @@ fn count_few(controller: &[u16], environment: &[u16], states: u16) -> u16
 }
 
 /// Writes into the slots where each pair of moves leads from each of so many states.
-fn write_next_states<F: Fn(u16, u16, u16) -> u16>(slots: &mut [u16], states: u16, next: F)
+fn write_next_states<F: Fn(u16, u16, u16) -> u16>(slots: &mut [u8], states: u16, next: F)
     requires callable { F.IsAlwaysCallable next }
+    requires bound { (w a b v : ℕ) → F.post next w a b v → v < 256 }
     requires room { states * 256 ≤ length slots.old }
     ensures { (to : ℕ → ℕ → ℕ → ℕ) → ((w a b v : ℕ) → F.post next w a b v → v ≡ to w a b) → LeadsTo to states slots.new }
 {
     for state in 0..states {
         for controller in 0..MAX_MOVES {
             for environment in 0..MAX_MOVES {
+                // a cast of what is below 256: a `TryFrom` would bring an error that never comes
                 slots[slot_of(state, controller, environment)] = next(
                     state,
                     controller,
                     environment,
-                );
+                ) as u8;
             }
         }
     }
 }
 
 impl Moves {
-    /// Asks for the moves at each of so many states, or at the first 256, and for where they lead.
+    /// Asks for the moves at each of so many states, up to one with too many moves, and for where they lead; for none if there are more than 256 states.
     fn gather<C: Fn(u16) -> u16, E: Fn(u16) -> u16, N: Fn(u16, u16, u16) -> u16>(
         states: u16,
         controller_moves: C,
@@ -106,17 +109,20 @@ impl Moves {
         requires controller { C.IsAlwaysCallable controller_moves }
         requires environment { E.IsAlwaysCallable environment_moves }
         requires next { N.IsAlwaysCallable next }
+        requires bound { states ≤ 256 → (w a b v : ℕ) → N.post next w a b v → v < 256 }
         ensures controller { (p : ℕ → ℕ) → ((w n : ℕ) → C.post controller_moves w n → n ≡ p w) → Answers p result.states result.controller }
         ensures environment { (q : ℕ → ℕ) → ((w n : ℕ) → E.post environment_moves w n → n ≡ q w) → Answers q result.states result.environment }
         ensures next { (to : ℕ → ℕ → ℕ → ℕ) → ((w a b v : ℕ) → N.post next w a b v → v ≡ to w a b) → LeadsTo to result.states result.next }
     {
-        let states = states.min(MAX_STATES);
         let mut moves = Moves {
             states: 0,
             controller: [0; STATE_SLOTS],
             environment: [0; STATE_SLOTS],
             next: [0; NEXT_SLOTS],
         };
+        if states > MAX_STATES {
+            return moves;
+        }
         write_numbers(&mut moves.controller, states, controller_moves);
         write_numbers(&mut moves.environment, states, environment_moves);
         let few = count_few(&moves.controller, &moves.environment, states);
@@ -156,7 +162,7 @@ impl Moves {
             && controller < self.controller[place]
             && environment < self.environment[place]
         {
-            Some(self.next[slot_of(state, controller, environment)])
+            Some(u16::from(self.next[slot_of(state, controller, environment)]))
         } else {
             None
         }
