@@ -1,4 +1,4 @@
-use Rattle.std.proofs.Common.{◌≡◌, ℕ, ◌+◌, ◌*◌, ◌<◌, length, sym, ◌∙◌, arith}
+use Rattle.std.proofs.Common.{◌+◌, ◌*◌, ◌<◌, length, sym, ◌∙◌, arith}
 use Rattle.arena.specs.Gathered.{next_at}
 use Rattle.arena.proofs.Slots.{next_at_slot, one_more}
 use Rattle.arena.proofs.gathered.write_next_states.Goals as goal

@@ -1,4 +1,4 @@
-use Rattle.std.proofs.Common.{rules, arith}
+use Rattle.std.proofs.Common.{rules}
 use Rattle.arena.proofs.gathered.Gathered.new.Goals as goal
 
 pub invariant_of-result : goal.invariant_of-result
