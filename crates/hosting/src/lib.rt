@@ -2,12 +2,12 @@
 #![tactic(auto)]
 
 mod answer;
-mod checking;
-mod deciding;
+mod check;
+mod decide;
 mod fault;
 mod filed;
 mod item;
-mod ranking;
+mod rank;
 mod refusal;
 
 pub use answer::{Certificate, Decision, Ranks, Read, Tolerances, Written};

@@ -15,7 +15,7 @@ use crate::decision::{DecideError, Decision};
 use crate::outcome::Outcome;
 use crate::refusal::Refusal;
 use crate::strike::{Settlement, Strike};
-use arena::{Arena, Board, Gathered};
+use arena::{Arena, Board, Gathered, pays_to_gather};
 use std::alloc::{AllocError, Global};
 
 /// The budget of each sweep of a decision.
@@ -69,8 +69,8 @@ impl Ledger {
 }
 
 impl Docket {
-    /// Sweeps until a sweep makes no strike, and settles.
-    fn conclude<A: Arena>(&mut self, arena: &A, table: &mut [u32]) -> Outcome
+    /// Sweeps over the arena until a sweep makes no strike, and settles.
+    fn conclude_on<A: Arena>(&mut self, arena: &A, table: &mut [u32]) -> Outcome
         requires { UnderWay (A.Arena.view arena.now) (position self.old table.old) }
         ensures outcome { result ≡ outcome_of (A.Arena.view arena.now) (swept_out (A.Arena.view arena.now) (pairs (A.Arena.view arena.now)) (position self.old table.old)) }
         ensures after { position self.new table.new ≡ (swept_out (A.Arena.view arena.now) (pairs (A.Arena.view arena.now)) (position self.old table.old)).position }
@@ -89,6 +89,30 @@ impl Docket {
         }
     }
 
+    /// Sweeps until a sweep makes no strike, and settles, over the gathered arena.
+    // By itself, since only a call that gathers needs the stack for it.
+    #[inline(never)]
+    fn conclude_gathered<A: Arena>(&mut self, arena: &A, table: &mut [u32]) -> Outcome
+        requires { UnderWay (A.Arena.view arena.now) (position self.old table.old) }
+        ensures outcome { result ≡ outcome_of (A.Arena.view arena.now) (swept_out (A.Arena.view arena.now) (pairs (A.Arena.view arena.now)) (position self.old table.old)) }
+        ensures after { position self.new table.new ≡ (swept_out (A.Arena.view arena.now) (pairs (A.Arena.view arena.now)) (position self.old table.old)).position }
+    {
+        self.conclude_on(&Gathered::new(arena), table)
+    }
+
+    /// Sweeps until a sweep makes no strike, and settles.
+    fn conclude<A: Arena>(&mut self, arena: &A, table: &mut [u32]) -> Outcome
+        requires { UnderWay (A.Arena.view arena.now) (position self.old table.old) }
+        ensures outcome { result ≡ outcome_of (A.Arena.view arena.now) (swept_out (A.Arena.view arena.now) (pairs (A.Arena.view arena.now)) (position self.old table.old)) }
+        ensures after { position self.new table.new ≡ (swept_out (A.Arena.view arena.now) (pairs (A.Arena.view arena.now)) (position self.old table.old)).position }
+    {
+        if pays_to_gather(arena) {
+            self.conclude_gathered(arena, table)
+        } else {
+            self.conclude_on(arena, table)
+        }
+    }
+
     /// Opens the docket, sweeps until a sweep makes no strike, and settles.
     ///
     /// It tells what `decide` does where no strike is proposed, and takes no memory. A refused call changes nothing.
@@ -98,7 +122,7 @@ impl Docket {
         ensures law { Judges (A.Arena.view arena.now) table.new result }
     {
         self.open(arena, table)?;
-        Ok(self.conclude(&Gathered::new(arena), table))
+        Ok(self.conclude(arena, table))
     }
 
     /// Decides, with the strikes as calls and room for their answers.
@@ -115,7 +139,6 @@ impl Docket {
         ensures { (strikes : List Strike) → calls.now ≡ proposals strikes → Decided (A.Arena.view arena.now) (position self.old table.old) strikes result (position self.new table.new) }
     {
         self.open(arena, table)?;
-        let arena = &Gathered::new(arena);
         let Ok(()) = self.run(arena, table, calls, &mut answers) else {
             unreachable()
         };

@@ -7,7 +7,7 @@ use Rattle.docket.specs.Seen.{ledger_view, view_of}
 use Rattle.docket.specs.Settle.{settle_says}
 use Rattle.docket.specs.Use.{UnderWay}
 use Rattle.docket.specs.declared.strike.Settlement.TheVariants.{Settled}
-use Rattle.docket.proofs.docket.Docket.conclude.Goals as goal
+use Rattle.docket.proofs.docket.Docket.conclude_on.Goals as goal
 
 pub unreachable-requires : goal.unreachable-requires
 unreachable-requires g c =
