@@ -1,31 +1,22 @@
-/*
- * Decides one exchange: may a type of two states float where one of a single
- * state does, with readings that differ by at most 3?
- *
- *     cc -Iinclude examples/decide.c crates/host/out/libhost.a -o decide
- */
+/* Decides the sample exchange of README: a type of one state, and one of two
+ * that may take its place if readings within 3 are alike. */
 #include "cunaweho.h"
-
 #include <stdio.h>
 
-/* The new type's environment can lead from reading 5 to reading 9. */
 static const uint8_t old_file[] = {0x01, 0x01, 0x0A, 0x01, 0x01, 0x00};
 static const uint8_t new_file[] = {0x02, 0x01, 0x0A, 0x01, 0x02, 0x00, 0x01,
                                    0x12, 0x01, 0x01, 0x01};
-
-static uint16_t old_words[CUNAWEHO_MAX_WORDS];
-static uint16_t new_words[CUNAWEHO_MAX_WORDS];
+static uint16_t old_words[CUNAWEHO_MAX_WORDS], new_words[CUNAWEHO_MAX_WORDS];
 static uint32_t table[CUNAWEHO_MAX_ENTRIES];
 
 int main(void) {
     const struct cunaweho_tolerances tolerances = {{3}};
-    struct cunaweho_decision decision = cunaweho_decide(
+    const struct cunaweho_decision decision = cunaweho_decide(
         old_file, sizeof old_file, new_file, sizeof new_file, &tolerances,
         old_words, CUNAWEHO_MAX_WORDS, new_words, CUNAWEHO_MAX_WORDS,
         table, CUNAWEHO_MAX_ENTRIES);
     if (decision.refusal.number != 0) {
-        printf("refused with %d at %zu\n", decision.refusal.number,
-               decision.refusal.place);
+        printf("refused with %d\n", decision.refusal.number);
         return 1;
     }
     printf("swept %lu\nstanding %lu\n%s\n", (unsigned long)decision.swept,
