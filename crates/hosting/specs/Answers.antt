@@ -1,6 +1,5 @@
 -- The answers that cross to C.
-use Rattle.std.specs.Prelude.{ℕ, Bool, false, Ok, Err, Result}
-use Rattle.docket.specs.Certificate.{fault_number}
+use Rattle.std.specs.Prelude.{ℕ, false, Ok, Err, Result}
 use Rattle.docket.specs.Refusals.{refusal_number}
 use Rattle.docket.specs.declared.certificate.Certificate.{Certificate as Shown}
 use Rattle.docket.specs.declared.certificate.CertificateFault.{CertificateFault}

@@ -33,7 +33,7 @@ abbrev pub of_table : Result Certificate CertificateFault → Result Certificate
 of_table (Ok c) = Ok c
 of_table (Err fault) = Err (Table fault)
 
--- what a certificate check answers: the fault of the files if they have one, else what the check of the table does
+-- the fault of the files if they have one, else what the check of the table finds
 abbrev pub check_says_by : Option FilesFault → Result Certificate CertificateFault → Result Certificate CheckFault
 check_says_by (Some fault) found = Err (Files fault)
 check_says_by None found = of_table found

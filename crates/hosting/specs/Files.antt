@@ -19,11 +19,11 @@ pub record Lent : Type 0 where
   pub new_file : List ℕ
   pub tolerances : List ℕ
 
--- those
+-- two files and the tolerances, by what they hold
 abbrev pub lent : List ℕ → List ℕ → List ℕ → Lent
 lent old_file new_file tolerances = record { old_file = old_file; new_file = new_file; tolerances = tolerances }
 
--- those of an exchange
+-- what an exchange of files is made of
 abbrev pub lent_by : FiledExchange → Lent
 lent_by e = lent e.old_file.now e.new_file.now e.tolerances
 
@@ -33,7 +33,7 @@ pub record Room : Type 0 where
   pub new_words : ℕ
   pub entries : ℕ
 
--- that many
+-- room for so many
 abbrev pub room : ℕ → ℕ → ℕ → Room
 room old_words new_words entries = record { old_words = old_words; new_words = new_words; entries = entries }
 

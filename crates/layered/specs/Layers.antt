@@ -1,5 +1,5 @@
 -- What the calls on two systems answer, and what they leave in the table.
-use Rattle.std.specs.Prelude.{ℕ, List, length, Some, None, Ok, Err, Option, Result, option_map}
+use Rattle.std.specs.Prelude.{ℕ, List, Some, None, Ok, Err, Option, Result}
 use Rattle.systems.specs.Meaning.{Meaning}
 use Rattle.likeness.specs.Within.{first_too_wide, within}
 use Rattle.arena.specs.Arena.{Arena}

@@ -1,4 +1,4 @@
-use Rattle.std.proofs.Common.{rules, sym, ap, subst, ◌∙◌, arith}
+use Rattle.std.proofs.Common.{rules, sym, ap}
 use Rattle.docket.specs.Refusals.{unless}
 use Rattle.hosting.proofs.Taken.{opening_granted, opening_refused_for_table}
 use Rattle.hosting.proofs.filed.check_together.Goals as goal

@@ -4,7 +4,7 @@ use Rattle.systems.specs.Layout.{stored}
 use Rattle.likeness.specs.Within.{within}
 use Rattle.arena.specs.Arena.{Arena}
 use Rattle.arena.specs.Exchange.{exchange}
-use Rattle.docket.specs.Certificate.{Certifies, certificate_says}
+use Rattle.docket.specs.Certificate.{Certifies}
 use Rattle.hosting.proofs.Taken.{accepted_shows, checked_says, exchange_is}
 use Rattle.hosting.specs.Calls.{of_table}
 use Rattle.hosting.specs.Files.{Room, Shows, filed, files_fault, lent_by, room}

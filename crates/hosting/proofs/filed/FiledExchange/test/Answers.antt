@@ -1,4 +1,4 @@
-use Rattle.std.proofs.Common.{◌≡◌, None, Some, rules, sym, ap, subst, ◌∙◌}
+use Rattle.std.proofs.Common.{◌≡◌, None, Some, rules, ap, ◌∙◌}
 use Rattle.std.specs.Prelude.{option_map}
 use Rattle.likeness.specs.Within.{first_too_wide, within}
 use Rattle.docket.specs.Refusals.{opening_refusal}
