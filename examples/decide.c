@@ -1,5 +1,5 @@
-/* Decides the sample exchange of README: a type of one state, and one of two
- * that may take its place if readings within 3 are alike. */
+/* Decides the sample exchange of README: may a type of two states float where
+ * one of a single state does, with readings alike that differ by at most 3? */
 #include "cunaweho.h"
 #include <stdio.h>
 

@@ -94,39 +94,7 @@ opens e lent none =
     unmapped None h = refl
     unmapped (Some refusal) h = cc
 
--- what the calls answer and leave where the files have no fault
-module _ (e : Lent) (lent : Room) (table : List ℕ) (none : files_fault e lent ≡ None) (long : lent.entries ≡ length table) (A : Arena) (is : A ≡ filed e) where
-  pub open_here : opening_refusal A (length table) ≡ None
-  open_here = ap (λ k. opening_refusal A k) (sym long) ∙ ap (λ B. opening_refusal B lent.entries) is ∙ opens e lent none
-
-  pub judged_says : judge_says A (position closed table) ≡ Ok (outcome_of (filed e) (decided (filed e) table))
-  judged_says = ap (λ o. unless o (outcome_of A (decided A table))) open_here ∙ ap (λ B. Ok (outcome_of B (decided B table))) is
-
-  pub judged_table : (judge_does A (position closed table)).table ≡ decide_does e lent table
-  judged_table =
-      ap (λ o. (if_granted o (decided A table).position (position closed table)).table) open_here
-      ∙ ap (λ B. (decided B table).position.table) is
-      ∙ sym (ap (λ o. left_by o (decided (filed e) table).position.table table) none)
-
-  pub decided_says : decide_says e lent table ≡ Ok (outcome_of (filed e) (decided (filed e) table))
-  decided_says = ap (λ o. unless o (outcome_of (filed e) (decided (filed e) table))) none
-
-  pub ranked_says : table_rank_says A table ≡ Ok (highest (filed e) (ranked (filed e) table))
-  ranked_says = ap (λ o. unless o (highest A (ranked A table))) open_here ∙ ap (λ B. Ok (highest B (ranked B table))) is
-
-  pub rank_said : rank_says e lent table ≡ Ok (highest (filed e) (ranked (filed e) table))
-  rank_said = ap (λ o. unless o (highest (filed e) (ranked (filed e) table))) none
-
-  pub ranked_table : table_rank_does A table ≡ rank_does e lent table
-  ranked_table =
-      ap (λ o. rank_left_by o (ranked A table) table) open_here
-      ∙ ap (λ B. ranked B table) is
-      ∙ sym (ap (λ o. left_by o (ranked (filed e) table) table) none)
-
-  pub checked_says : of_table (certificate_says A table) ≡ check_says e lent table
-  checked_says = ap (λ B. of_table (certificate_says B table)) is ∙ sym (ap (λ o. check_says_by o (certificate_says (filed e) table)) none)
-
 -- what an accepted table shows
-pub accepted_shows : (A : Arena) (table : List ℕ) (found : Result Certificate CertificateFault) → Certifies A table found → IfOk (of_table found) (λ c. Shows A table c.replaces)
+pub accepted_shows : (A : Arena) (table : List ℕ) (found : Result Certificate CertificateFault) → Certifies A table found → IfOk found (λ c. Shows A table c.replaces)
 accepted_shows A table (Ok c) law = law
 accepted_shows A table (Err fault) law = tt

@@ -5,9 +5,8 @@ ghost use Rattle.hosting.specs.Files.{Shows, filed, files_fault, laid_out, left_
 
 use crate::fault::CheckFault;
 use crate::filed::FiledExchange;
-use arena::Exchange;
-use docket::{Certificate, check_certificate};
-use systems::Stored;
+use crate::held::Held;
+use docket::Certificate;
 
 impl FiledExchange<'_> {
     /// Checks a table, whoever wrote it: lays both systems out in the words that are lent for them, and accepts the table only if its standing pairs are the largest simulation.
@@ -25,11 +24,12 @@ impl FiledExchange<'_> {
         ensures law { IfOk result (λ certificate. Shows (filed (lent_by self.now)) table.now certificate.replaces) }
     {
         let likeness = self.take_in(old_words, new_words, table.len())?;
-        let exchange = Exchange {
-            old: &Stored::new(old_words),
-            new: &Stored::new(new_words),
+        let held = Held {
+            files: self,
             likeness: &likeness,
+            old_words,
+            new_words,
         };
-        check_certificate(&exchange, table).map_err(CheckFault::Table)
+        Ok(held.check(table)?)
     }
 }

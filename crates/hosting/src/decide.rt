@@ -5,9 +5,8 @@ ghost use Rattle.hosting.specs.Files.{Shows, filed, files_fault, laid_out, left_
 
 use crate::fault::FilesFault;
 use crate::filed::FiledExchange;
-use arena::Exchange;
-use docket::{Docket, Outcome};
-use systems::Stored;
+use crate::held::Held;
+use docket::Outcome;
 
 impl FiledExchange<'_> {
     /// Decides whether the new system replaces the old: lays both out in the words that are lent for them, opens a docket on the table, sweeps until a sweep makes no strike, and settles.
@@ -26,13 +25,12 @@ impl FiledExchange<'_> {
         ensures law { IfOk result (λ outcome. Shows (filed (lent_by self.now)) table.new outcome.replaces) }
     {
         let likeness = self.take_in(old_words, new_words, table.len())?;
-        let exchange = Exchange {
-            old: &Stored::new(old_words),
-            new: &Stored::new(new_words),
+        let held = Held {
+            files: self,
             likeness: &likeness,
+            old_words,
+            new_words,
         };
-        Docket::new()
-            .judge(&exchange, table)
-            .map_err(FilesFault::Exchange)
+        held.judge(table).map_err(FilesFault::Exchange)
     }
 }

@@ -1,6 +1,6 @@
 //! Why two files, or what is lent with them, are refused.
 ghost use Rattle.std.specs.Prelude.{◌≡◌};
-ghost use Rattle.hosting.specs.declared.fault.CheckFault.TheVariants.{Files};
+ghost use Rattle.hosting.specs.declared.fault.CheckFault.TheVariants.{Files, Table};
 ghost use Rattle.hosting.specs.declared.fault.FilesFault.TheVariants.{Exchange};
 ghost use Rattle.hosting.specs.Fault.{check_fault_number, files_fault_number};
 
@@ -68,5 +68,13 @@ impl From<FilesFault> for CheckFault {
 
     fn from(fault: FilesFault) -> CheckFault {
         CheckFault::Files(fault)
+    }
+}
+
+impl From<CertificateFault> for CheckFault {
+    ghost from_gives = { λ fault r. r ≡ Table fault };
+
+    fn from(fault: CertificateFault) -> CheckFault {
+        CheckFault::Table(fault)
     }
 }

@@ -6,6 +6,7 @@ mod check;
 mod decide;
 mod fault;
 mod filed;
+mod held;
 mod item;
 mod rank;
 mod refusal;

@@ -6,9 +6,7 @@ ghost use Rattle.hosting.specs.Files.{filed, files_fault, laid_out, left_by, len
 
 use crate::fault::FilesFault;
 use crate::filed::FiledExchange;
-use arena::Exchange;
-use ranking::rank;
-use systems::Stored;
+use crate::held::Held;
 
 impl FiledExchange<'_> {
     /// Writes every pair's rank into the table, and answers the highest: lays both systems out in the words that are lent for them first.
@@ -27,11 +25,12 @@ impl FiledExchange<'_> {
         ensures law { IfOk result (λ _. RanksRight (filed (lent_by self.now)) table.old table.new) }
     {
         let likeness = self.take_in(old_words, new_words, table.len())?;
-        let exchange = Exchange {
-            old: &Stored::new(old_words),
-            new: &Stored::new(new_words),
+        let held = Held {
+            files: self,
             likeness: &likeness,
+            old_words,
+            new_words,
         };
-        rank(&exchange, table).map_err(FilesFault::Exchange)
+        held.rank(table).map_err(FilesFault::Exchange)
     }
 }
