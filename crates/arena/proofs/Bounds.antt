@@ -22,13 +22,6 @@ pub any_below_none : (n : ℕ) (f : ℕ → Bool) → any_below n f ≡ false �
 any_below_none n f h k l =
     elim (cases_Bool (f k)) [ inl e ↦ absurd (both_ways (any_below n f) h (any_below_from n k f l e)) | inr e ↦ e ]
 
-pub any_below_false : (n : ℕ) (f : ℕ → Bool) → ((k : ℕ) → k < n → f k ≡ false) → any_below n f ≡ false
-any_below_false n f h =
-    elim (cases_Bool (any_below n f)) [
-      | inl e ↦ let k = any_below_true n f e in absurd (both_ways (f k.0) (h k.0 k.1) k.2)
-      | inr e ↦ e
-    ]
-
 -- a loop's step
 pub any_below_more : (k : ℕ) (f : ℕ → Bool) → any_below k f ≡ false → f k ≡ false → any_below (k + 1) f ≡ false
 any_below_more k f h e = rw add-one (or_from (f k) (any_below k f) e h)

@@ -1,5 +1,5 @@
 -- What the bytes of a number read back to.
-use Rattle.std.proofs.Common.{◌≡◌, ℕ, ◌<◌, ◌≤◌, List, ◌++◌, length, Ok, inl, inr, arith}
+use Rattle.std.proofs.Common.{◌≡◌, ℕ, ◌<◌, List, ◌++◌, Ok, inl, inr, arith}
 use Rattle.std.proofs.lemmas.Bool.{cases_lt, lt-ltb, le-ltb}
 use Rattle.std.proofs.lemmas.Bool.Decides.{nat_tests}
 use Rattle.codec.specs.Number.{number, encoded}
@@ -13,6 +13,3 @@ number-encoded n rest small =
         | inr three ↦ rw (le-ltb n 128 more, le-ltb n 16384 three) (grind (arith, nat_tests))
       ]
     ]
-
-pub encoded_short : (n : ℕ) → length (encoded n) ≤ 3
-encoded_short n = grind (arith, nat_tests)

@@ -1,5 +1,5 @@
 //! Numbers of 16 bits in groups of seven bits, the least group first; the high bit is set on every byte but the last.
-ghost use Rattle.std.specs.Prelude.{◌≡◌, ◌≤◌, List, length, drop, IfOk, Ok};
+ghost use Rattle.std.specs.Prelude.{◌≡◌, ◌≤◌, length, drop, IfOk, Ok};
 ghost use Rattle.codec.specs.Number.{number, value_and_rest, encoded, put_answer, put_in_front, NoneShorter};
 
 /// The least byte with its high bit set, behind which another byte follows; also how many values a group has.

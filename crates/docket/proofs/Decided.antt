@@ -4,6 +4,7 @@ use Rattle.std.proofs.lemmas.Nat.{mul-le}
 use Rattle.std.proofs.lemmas.List.Elements.{All-cons, All-nil}
 use Rattle.std.proofs.lemmas.List.Sums.{sum_by-cons}
 use Rattle.std.proofs.lemmas.Bool.{and_from, and_left, and_right, cases_Bool, cases_eq, cond_both, cond-false, cond-true, eq-eqb, eqb-false, eqb-true, le-ltb, lt-ltb, ne_eqb}
+use Rattle.systems.specs.Refused.{if_granted, unless}
 use Rattle.arena.proofs.Simulation.{largest, replaces_by}
 use Rattle.arena.specs.Arena.{Arena, Closed}
 use Rattle.arena.specs.Pairs.{Largest, Replaces}
@@ -12,9 +13,9 @@ use Rattle.docket.proofs.Good.{Good, good_after, good_count, good_opened, good_s
 use Rattle.docket.proofs.Laws.{calm_none_loose}
 use Rattle.docket.proofs.Runs.{after_more, answers_more}
 use Rattle.docket.specs.Decide.{IsRun, Told, decision, full_budget, proposals, swept_out, with_earlier}
-use Rattle.docket.specs.Judge.{Judges, judge_does, judge_says, outcome_of}
+use Rattle.docket.specs.Judge.{Judges, outcome_of}
 use Rattle.docket.specs.Position.{Position, marked, opened}
-use Rattle.docket.specs.Refusals.{if_granted, opening_refusal, unless, use_refusal}
+use Rattle.docket.specs.Refusals.{opening_refusal, use_refusal}
 use Rattle.docket.specs.Run.{after, answers, does, granted as granted_as, says}
 use Rattle.docket.specs.Settle.{first_loose, settle_says, settled_unless, settlement}
 use Rattle.docket.specs.Strikes.{open_does}
@@ -312,12 +313,6 @@ module _ (A : Arena) (c : Closed A) (x : Position) (granted : opening_refusal A 
 
   pub opened_under_way : UnderWay A p
   opened_under_way = record { before = x; calls = []; granted = granted; led = behind_opening }
-
-  pub judged_says : Ok (outcome_of A (swept_out A (pairs A) p)) ≡ judge_says A x
-  judged_says = ap (λ z. Ok (outcome_of A (swept_out A (pairs A) z))) behind_opening ∙ sym (ap (λ o. unless o (outcome_of A (decision A x []))) granted)
-
-  pub judged_does : (swept_out A (pairs A) p).position ≡ judge_does A x
-  judged_does = ap (λ z. (swept_out A (pairs A) z).position) behind_opening ∙ sym (ap (λ o. if_granted o (decision A x []).position x) granted)
 
   pub judged : (y : Position) → y ≡ (swept_out A (pairs A) p).position → (o : Outcome) → o ≡ outcome_of A (swept_out A (pairs A) p) → Judges A y.table (Ok o)
   judged y third o told =

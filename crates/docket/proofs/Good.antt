@@ -4,14 +4,15 @@ use Rattle.std.proofs.lemmas.Nat.{div-mul-add, mod-mul-add, mul-add-lt}
 use Rattle.std.proofs.lemmas.List.{get_or_append_left, get_or-replicate, get_or-set_other, get_or-set_same, length-append, length-drop, length-replicate, length-set}
 use Rattle.std.proofs.lemmas.Bool.{and_from, and_parts, both_ways, cases_eq, cond_both, eq-eqb, lt-ltb, ne_eqb, not_from_false, not_from_true, not-true, or_cases}
 use Rattle.systems.proofs.Bounded.{or_else_none}
-use Rattle.arena.proofs.Bounds.{count_below_less, count_below_most, count_below_none, count_below_one_more}
+use Rattle.systems.specs.Refused.{if_granted, unless}
+use Rattle.arena.proofs.Bounds.{count_below_less, count_below_none, count_below_one_more}
 use Rattle.arena.proofs.Simulation.{Ordered, faulty_more}
 use Rattle.arena.specs.Arena.{Arena, Closed}
 use Rattle.arena.specs.Bounds.{count_below}
 use Rattle.arena.specs.Table.{entry, faulty, loose, pairs, stands, struck}
 use Rattle.docket.proofs.Grounds.{caused_faulty, fitting_room, grounds, if_granted_both, openable_fits, opened_in_use}
 use Rattle.docket.specs.Position.{Position, marked, opened}
-use Rattle.docket.specs.Refusals.{if_granted, misfit, opening_refusal, pair_refusal, strike_refusal, unless, use_refusal}
+use Rattle.docket.specs.Refusals.{misfit, opening_refusal, pair_refusal, strike_refusal, use_refusal}
 use Rattle.docket.specs.Run.{after, does, granted, opens, says, was_opened}
 use Rattle.docket.specs.Settle.{settle_says}
 use Rattle.docket.specs.Strikes.{strike_does, strike_says}
@@ -50,10 +51,7 @@ same_pair A w v a b lv lb e = (
 pub good_room : (A : Arena) (x : Position) → Good A x → pairs A ≤ length x.table
 good_room A x good = fitting_room A (length x.table) (openable_fits A (length x.table) good.openable)
 
--- and its count is at most the number of pairs, below it while one stands
-pub good_most : (A : Arena) (x : Position) → Good A x → x.docket.count ≤ pairs A
-good_most A x good = omega (arith, good.counted, count_below_most (pairs A) (λ i. struck_at x.table i))
-
+-- and its count is below the number of pairs while one stands
 pub good_count : (A : Arena) (x : Position) → Good A x → (w v : ℕ) → w < A.old_states → v < A.new_states → stands A x.table w v ≡ true → x.docket.count < pairs A
 good_count A x good w v lw lv st =
     omega (arith, good.counted, count_below_less (pairs A) (w * A.new_states + v) (λ i. struck_at x.table i) (place A w v lw lv) (not_from_true (stands A x.table w v) st))

@@ -3,6 +3,7 @@ use Rattle.std.proofs.Common.{◌≡◌, ℕ, ◌<◌, ◌≤◌, Bool, true, fa
 use Rattle.std.proofs.lemmas.Bool.{and_from, and_parts, cond-false, cond-true, eq-eqb, eqb-true, leb-false, lt-leb, lt-ltb, ltb-false, ltb-true, not-false, not_from_false, not_from_true, or_left, or_right}
 use Rattle.systems.proofs.Bounded.{or_else_none}
 use Rattle.systems.specs.Bounded.{or_else}
+use Rattle.systems.specs.Refused.{if_granted}
 use Rattle.arena.proofs.Bounds.{any_below_from}
 use Rattle.arena.proofs.Simulation.{move_refutes, sight_unlike}
 use Rattle.arena.specs.Arena.{Arena}
@@ -11,7 +12,7 @@ use Rattle.arena.specs.Table.{cause_of, faulty, pairs, stands, struck}
 use Rattle.arena.specs.declared.cause.Cause.{Cause}
 use Rattle.arena.specs.declared.cause.Cause.TheVariants.{Sight, Move}
 use Rattle.docket.specs.Position.{Position, opened}
-use Rattle.docket.specs.Refusals.{cause_refusal, few_moves_in_both, if_granted, misfit, opening_refusal, pair_refusal, too_many_states, use_refusal}
+use Rattle.docket.specs.Refusals.{cause_refusal, few_moves_in_both, misfit, opening_refusal, pair_refusal, too_many_states, use_refusal}
 use Rattle.docket.specs.Use.{InUse}
 use Rattle.docket.specs.declared.refusal.Refusal.{Refusal}
 use Rattle.docket.specs.declared.refusal.Refusal.TheVariants.{TooManyStates, NotComparable, TooManyMoves, TableTooShort, Closed, OtherSizes, NoSuchState, AlreadyStruck, NoSuchMove, Alike, NotRefuted, Full}

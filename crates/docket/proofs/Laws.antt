@@ -3,6 +3,7 @@ use Rattle.std.proofs.Common.{◌≡◌, ℕ, ◌+◌, ◌<◌, Bool, true, fals
 use Rattle.std.proofs.lemmas.Bool.{both_ways, cond-true}
 use Rattle.systems.proofs.Bounded.{first_below_none_all, first_below_none_from, or_else_none}
 use Rattle.systems.specs.Bounded.{or_else}
+use Rattle.systems.specs.Refused.{unless}
 use Rattle.arena.proofs.Bounds.{first_below_some}
 use Rattle.arena.proofs.Refuting.{some_cause}
 use Rattle.arena.proofs.Simulation.{Calm, Ordered, all_in_order, calm, largest, lost, ordered_and_calm, replaces_by}
@@ -15,7 +16,7 @@ use Rattle.docket.proofs.Grounds.{found_caused, grants}
 use Rattle.docket.specs.Certificate.{Certifies, certificate, certificate_says, first_fault, first_fault_in, pair_fault, refused}
 use Rattle.docket.specs.Law.{CertificateLaw, RunLaw, SettleTells, SettledRight, Sound}
 use Rattle.docket.specs.Position.{Position}
-use Rattle.docket.specs.Refusals.{opening_refusal, pair_refusal, strike_refusal, unless}
+use Rattle.docket.specs.Refusals.{opening_refusal, pair_refusal, strike_refusal}
 use Rattle.docket.specs.Run.{after}
 use Rattle.docket.specs.Settle.{first_loose, first_loose_in, loose_strike, settle_says, settled_unless, settlement, strike_for}
 use Rattle.docket.specs.Strikes.{strike_says}

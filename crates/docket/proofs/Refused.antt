@@ -2,9 +2,9 @@
 use Rattle.std.proofs.Common.{◌≡◌, ℕ, ◌<◌, List, Some, None, Ok, Err, Option, sym, refl, ap, ◌∙◌}
 use Rattle.systems.proofs.Bounded.{first_below_found}
 use Rattle.systems.specs.Bounded.{first_below}
+use Rattle.systems.specs.Refused.{unless}
 use Rattle.arena.specs.Arena.{Arena}
 use Rattle.docket.specs.Certificate.{first_fault, first_fault_in, pair_fault}
-use Rattle.docket.specs.Refusals.{unless}
 
 module _ {E X : Type 0} where
   -- a check that refuses names the refusal

@@ -1,10 +1,11 @@
 -- Certificate checks.
 use Rattle.std.specs.Prelude.{ℕ, cond, List, length, Some, None, Ok, Err, Decides, Option, Result}
 use Rattle.systems.specs.Bounded.{first_below, or_else}
+use Rattle.systems.specs.Refused.{unless}
 use Rattle.arena.specs.Arena.{Arena}
 use Rattle.arena.specs.Pairs.{Largest, Replaces}
 use Rattle.arena.specs.Table.{in_order, number_standing, standing, stands, start_stands}
-use Rattle.docket.specs.Refusals.{opening_refusal, refusal_number, unless}
+use Rattle.docket.specs.Refusals.{opening_refusal, refusal_number}
 use Rattle.docket.specs.declared.certificate.Certificate.{Certificate}
 use Rattle.docket.specs.declared.certificate.CertificateFault.{CertificateFault}
 use Rattle.docket.specs.declared.certificate.CertificateFault.TheVariants.{Refused, Unfounded, Loose}
@@ -18,7 +19,7 @@ pair_fault A table w v = cond (in_order A table w v) None (Some (cond (stands A 
 abbrev pub first_fault_in : Arena → List ℕ → ℕ → ℕ → Option CertificateFault
 first_fault_in A table w columns = first_below columns λ v. pair_fault A table w v
 
--- the fault of the first pair out of order by index
+-- the fault of the first pair out of order by place
 abbrev pub first_fault : Arena → List ℕ → Option CertificateFault
 first_fault A table = first_below A.old_states λ w. first_fault_in A table w A.new_states
 

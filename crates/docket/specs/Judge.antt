@@ -1,11 +1,12 @@
 -- Judgements: decisions without proposals, which hand back no list.
 use Rattle.std.specs.Prelude.{ℕ, List, [], length, Ok, Err, Decides, Result}
+use Rattle.systems.specs.Refused.{if_granted, unless}
 use Rattle.arena.specs.Arena.{Arena}
 use Rattle.arena.specs.Pairs.{Largest, Replaces}
 use Rattle.arena.specs.Table.{number_standing, standing, start_stands}
 use Rattle.docket.specs.Decide.{decision}
 use Rattle.docket.specs.Position.{Position}
-use Rattle.docket.specs.Refusals.{if_granted, opening_refusal, unless}
+use Rattle.docket.specs.Refusals.{opening_refusal}
 use Rattle.docket.specs.Sweep.{Swept}
 use Rattle.docket.specs.declared.outcome.Outcome.{Outcome}
 use Rattle.docket.specs.declared.refusal.Refusal.{Refusal}

@@ -1,5 +1,5 @@
 -- Which calls are refused, and why.
-use Rattle.std.specs.Prelude.{ℕ, Bool, cond, not, ◌&&◌, ◌||◌, List, length, Some, None, Ok, Err, Option, Result, ◌==◌, nat_le, nat_lt}
+use Rattle.std.specs.Prelude.{ℕ, Bool, cond, not, ◌&&◌, ◌||◌, List, length, Some, None, Option, ◌==◌, nat_le, nat_lt}
 use Rattle.systems.specs.Bounded.{all_below, or_else}
 use Rattle.arena.specs.Arena.{Arena}
 use Rattle.arena.specs.Pairs.{refutes}
@@ -74,13 +74,3 @@ pair_refusal A x w v cause =
 -- why a strike is refused, if it is
 abbrev pub strike_refusal : Arena → Position → Strike → Option Refusal
 strike_refusal A x s = or_else (use_refusal A x) (pair_refusal A x s.pair.0 s.pair.1 s.cause)
-
--- the answer of a call, refused or granted
-abbrev pub unless : {E X : Type 0} → Option E → X → Result X E
-unless (Some refusal) answer = Err refusal
-unless None answer = Ok answer
-
--- where a call leads: a refused one changes nothing
-abbrev pub if_granted : Option Refusal → Position → Position → Position
-if_granted (Some refusal) after before = before
-if_granted None after before = after

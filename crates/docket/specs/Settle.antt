@@ -1,11 +1,12 @@
 -- Settle checks.
 use Rattle.std.specs.Prelude.{ℕ, cond, List, Some, None, Option, Result}
 use Rattle.systems.specs.Bounded.{first_below}
+use Rattle.systems.specs.Refused.{unless}
 use Rattle.arena.specs.Arena.{Arena}
 use Rattle.arena.specs.Table.{cause_of, number_standing, stands}
 use Rattle.arena.specs.declared.cause.Cause.{Cause}
 use Rattle.docket.specs.Position.{Position}
-use Rattle.docket.specs.Refusals.{unless, use_refusal}
+use Rattle.docket.specs.Refusals.{use_refusal}
 use Rattle.docket.specs.declared.refusal.Refusal.{Refusal}
 use Rattle.docket.specs.declared.strike.Settlement.{Settlement}
 use Rattle.docket.specs.declared.strike.Settlement.TheVariants.{Settled, Loose}
@@ -24,7 +25,7 @@ loose_strike A table w v = cond (stands A table w v) (strike_for w v (cause_of A
 abbrev pub first_loose_in : Arena → List ℕ → ℕ → ℕ → Option Strike
 first_loose_in A table w columns = first_below columns λ v. loose_strike A table w v
 
--- the first loose pair by index
+-- the first loose pair by place
 abbrev pub first_loose : Arena → List ℕ → Option Strike
 first_loose A table = first_below A.old_states λ w. first_loose_in A table w A.new_states
 

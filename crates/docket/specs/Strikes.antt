@@ -1,9 +1,10 @@
 -- Opening and striking.
 use Rattle.std.specs.Prelude.{ℕ, ◌+◌, length, Result}
+use Rattle.systems.specs.Refused.{if_granted, unless}
 use Rattle.arena.specs.Arena.{Arena}
 use Rattle.arena.specs.Table.{pairs}
 use Rattle.docket.specs.Position.{Position, marked, opened}
-use Rattle.docket.specs.Refusals.{if_granted, opening_refusal, strike_refusal, unless}
+use Rattle.docket.specs.Refusals.{opening_refusal, strike_refusal}
 use Rattle.docket.specs.declared.refusal.Refusal.{Refusal}
 use Rattle.docket.specs.declared.strike.Strike.{Strike}
 

@@ -1,9 +1,10 @@
 -- Sweeps.
 use Rattle.std.specs.Prelude.{ℕ, zero, suc, ◌+◌, cond, ◌&&◌, List, Result, nat_lt}
+use Rattle.systems.specs.Refused.{if_granted, unless}
 use Rattle.arena.specs.Arena.{Arena}
 use Rattle.arena.specs.Table.{loose, pairs}
 use Rattle.docket.specs.Position.{Position, View, marked, position}
-use Rattle.docket.specs.Refusals.{if_granted, unless, use_refusal}
+use Rattle.docket.specs.Refusals.{use_refusal}
 use Rattle.docket.specs.declared.refusal.Refusal.{Refusal}
 
 -- A sweep under way: where it has led, and how many strikes it has made.

@@ -1,8 +1,8 @@
 //! The certificate check: whether a table, whoever wrote it, shows the largest simulation.
 ghost use Rattle.std.specs.Prelude.{◌≡◌, ◌≤◌, length};
+ghost use Rattle.systems.specs.Refused.{unless};
 ghost use Rattle.arena.specs.Table.{pairs};
 ghost use Rattle.docket.specs.Certificate.{Certifies, certificate, certificate_says, fault_number, first_fault, pair_fault};
-ghost use Rattle.docket.specs.Refusals.{unless};
 ghost use Rattle.docket.specs.declared.certificate.CertificateFault.TheVariants.{Refused};
 
 use crate::fit::check_opening;

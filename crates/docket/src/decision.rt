@@ -25,7 +25,7 @@ pub struct Decision {
 pub enum DecideError {
     /// The opening is refused.
     Refused(Refusal),
-    /// There was no memory for the answers.
+    /// There was no memory for the calls and their answers.
     NoMemory,
 }
 

@@ -1,7 +1,8 @@
 //! Whether two systems and a table serve a docket.
 ghost use Rattle.std.specs.Prelude.{◌≡◌, ◌≤◌, ℕ, OnOk};
+ghost use Rattle.systems.specs.Refused.{unless};
 ghost use Rattle.arena.specs.Table.{pairs};
-ghost use Rattle.docket.specs.Refusals.{few_moves, few_moves_in_both, misfit, opening_refusal, unless};
+ghost use Rattle.docket.specs.Refusals.{few_moves, few_moves_in_both, misfit, opening_refusal};
 
 use crate::refusal::Refusal;
 use arena::{Arena, number_of_pairs};

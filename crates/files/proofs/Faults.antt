@@ -1,6 +1,6 @@
 -- What an answer tells of the fault that there is, or is not.
 use Rattle.std.proofs.Common.{◌≡◌, Some, None, Ok, Err, Option, Result, refl}
-use Rattle.files.specs.Answer.{unless}
+use Rattle.systems.specs.Refused.{unless}
 
 pub unless_err : {X F : Type 0} (fault : Option F) (value : X) (why : F) → Err why ≡ unless fault value → fault ≡ Some why
 unless_err (Some fault) value why h = cc

@@ -1,11 +1,6 @@
 -- Answers of calls that may find a fault.
 use Rattle.std.specs.Prelude.{◌≡◌, Some, None, Ok, Err, Option, Result}
 
--- the fault if there is one, else the value
-abbrev pub unless : {X F : Type 0} → Option F → X → Result X F
-unless (Some fault) value = Err fault
-unless None value = Ok value
-
 -- the answer is that; said by its cases
 abbrev pub Unless : {X F : Type 0} → Option F → X → Result X F → Type 0
 Unless fault value (Ok found) = (fault ≡ None) × (found ≡ value)

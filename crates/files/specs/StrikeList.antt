@@ -4,7 +4,7 @@ use Rattle.std.specs.Prelude.{ℕ, ◌+◌, cond, ◌==◌, List, length, take, 
 use Rattle.std.specs.Result.{result_err}
 use Rattle.codec.specs.declared.number.NumberFault.TheVariants.{Ends}
 use Rattle.systems.specs.Bounded.{or_else, first_below}
-use Rattle.files.specs.Answer.{unless}
+use Rattle.systems.specs.Refused.{unless}
 use Rattle.files.specs.Refusal.{number_refusal}
 use Rattle.files.specs.Sequence.{number_at, value_at, after, skip, nth}
 use Rattle.files.specs.declared.list_fault.ListReason.{ListReason}

@@ -1,7 +1,7 @@
 //! Reading a system file into words.
 ghost use Rattle.std.specs.Prelude.{◌≡◌, ◌-◌, length, drop, is_ok, IfOk, if◌then◌else◌, OnOk};
 ghost use Rattle.systems.specs.Layout.{stored};
-ghost use Rattle.files.specs.Answer.{unless};
+ghost use Rattle.systems.specs.Refused.{unless};
 ghost use Rattle.files.specs.Flattening.{ReadsAsFiled};
 ghost use Rattle.files.specs.SystemFile.{file_fault, file_read, described};
 ghost use Rattle.files.specs.Words.{put_at, system_words};

@@ -1,6 +1,6 @@
 //! Writing a system as the bytes of its file.
 ghost use Rattle.std.specs.Prelude.{◌≡◌, ◌≤◌, ◌++◌, length, drop, is_ok, IfOk, if◌then◌else◌};
-ghost use Rattle.files.specs.Answer.{unless};
+ghost use Rattle.systems.specs.Refused.{unless};
 ghost use Rattle.files.specs.SystemWrite.{system_bytes, write_fault, ReadsBack};
 
 use crate::small::SmallSystem;

@@ -1,12 +1,12 @@
 //! The exported calls, each a call of a library with its answer as C takes it.
 ghost use Rattle.std.specs.Prelude.{◌≡◌, ◌-◌, ◌++◌, length, drop, is_none, IfOk, if◌then◌else◌};
-ghost use Rattle.files.specs.Answer.{unless};
+ghost use Rattle.systems.specs.Refused.{if_granted, unless};
 ghost use Rattle.files.specs.SystemFile.{described, file_fault, file_read};
 ghost use Rattle.files.specs.SystemWrite.{system_bytes, write_fault};
 ghost use Rattle.files.specs.Words.{put_at, system_words};
 ghost use Rattle.ranking.specs.Rank.{RanksRight};
 ghost use Rattle.hosting.specs.Calls.{check_says, decide_does, decide_says, rank_does, rank_says};
-ghost use Rattle.hosting.specs.Files.{Shows, filed, files_fault, laid_out, left_by, lent, room};
+ghost use Rattle.hosting.specs.Files.{Shows, filed, files_fault, laid_out, lent, room};
 ghost use Rattle.hosting.specs.Answers.{certificate_of, decision_of, ranks_of, read_of, written_of};
 ghost use Rattle.hosting.specs.Held.{held};
 
@@ -49,8 +49,8 @@ pub extern "C" fn cunaweho_decide(
 ) -> Decision
     ensures answer { result ≡ decision_of (decide_says (lent old_file.now new_file.now tolerances.now.channels) (room (length old_words.old) (length new_words.old) (length table.old)) table.old) }
     ensures table { table.new ≡ decide_does (lent old_file.now new_file.now tolerances.now.channels) (room (length old_words.old) (length new_words.old) (length table.old)) table.old }
-    ensures old { old_words.new ≡ left_by (files_fault (lent old_file.now new_file.now tolerances.now.channels) (room (length old_words.old) (length new_words.old) (length table.old))) (laid_out old_file.now old_words.old) old_words.old }
-    ensures new { new_words.new ≡ left_by (files_fault (lent old_file.now new_file.now tolerances.now.channels) (room (length old_words.old) (length new_words.old) (length table.old))) (laid_out new_file.now new_words.old) new_words.old }
+    ensures old { old_words.new ≡ if_granted (files_fault (lent old_file.now new_file.now tolerances.now.channels) (room (length old_words.old) (length new_words.old) (length table.old))) (laid_out old_file.now old_words.old) old_words.old }
+    ensures new { new_words.new ≡ if_granted (files_fault (lent old_file.now new_file.now tolerances.now.channels) (room (length old_words.old) (length new_words.old) (length table.old))) (laid_out new_file.now new_words.old) new_words.old }
     ensures law { IfOk (decide_says (lent old_file.now new_file.now tolerances.now.channels) (room (length old_words.old) (length new_words.old) (length table.old)) table.old) (λ outcome. Shows (filed (lent old_file.now new_file.now tolerances.now.channels)) table.new outcome.replaces) }
 {
     let lent = FiledExchange {
@@ -72,8 +72,8 @@ pub extern "C" fn cunaweho_check(
     table: &[u32],
 ) -> Certificate
     ensures answer { result ≡ certificate_of (check_says (lent old_file.now new_file.now tolerances.now.channels) (room (length old_words.old) (length new_words.old) (length table.now)) table.now) }
-    ensures old { old_words.new ≡ left_by (files_fault (lent old_file.now new_file.now tolerances.now.channels) (room (length old_words.old) (length new_words.old) (length table.now))) (laid_out old_file.now old_words.old) old_words.old }
-    ensures new { new_words.new ≡ left_by (files_fault (lent old_file.now new_file.now tolerances.now.channels) (room (length old_words.old) (length new_words.old) (length table.now))) (laid_out new_file.now new_words.old) new_words.old }
+    ensures old { old_words.new ≡ if_granted (files_fault (lent old_file.now new_file.now tolerances.now.channels) (room (length old_words.old) (length new_words.old) (length table.now))) (laid_out old_file.now old_words.old) old_words.old }
+    ensures new { new_words.new ≡ if_granted (files_fault (lent old_file.now new_file.now tolerances.now.channels) (room (length old_words.old) (length new_words.old) (length table.now))) (laid_out new_file.now new_words.old) new_words.old }
     ensures law { IfOk (check_says (lent old_file.now new_file.now tolerances.now.channels) (room (length old_words.old) (length new_words.old) (length table.now)) table.now) (λ certificate. Shows (filed (lent old_file.now new_file.now tolerances.now.channels)) table.now certificate.replaces) }
 {
     let lent = FiledExchange {
@@ -96,8 +96,8 @@ pub extern "C" fn cunaweho_rank(
 ) -> Ranks
     ensures answer { result ≡ ranks_of (rank_says (lent old_file.now new_file.now tolerances.now.channels) (room (length old_words.old) (length new_words.old) (length table.old)) table.old) }
     ensures table { table.new ≡ rank_does (lent old_file.now new_file.now tolerances.now.channels) (room (length old_words.old) (length new_words.old) (length table.old)) table.old }
-    ensures old { old_words.new ≡ left_by (files_fault (lent old_file.now new_file.now tolerances.now.channels) (room (length old_words.old) (length new_words.old) (length table.old))) (laid_out old_file.now old_words.old) old_words.old }
-    ensures new { new_words.new ≡ left_by (files_fault (lent old_file.now new_file.now tolerances.now.channels) (room (length old_words.old) (length new_words.old) (length table.old))) (laid_out new_file.now new_words.old) new_words.old }
+    ensures old { old_words.new ≡ if_granted (files_fault (lent old_file.now new_file.now tolerances.now.channels) (room (length old_words.old) (length new_words.old) (length table.old))) (laid_out old_file.now old_words.old) old_words.old }
+    ensures new { new_words.new ≡ if_granted (files_fault (lent old_file.now new_file.now tolerances.now.channels) (room (length old_words.old) (length new_words.old) (length table.old))) (laid_out new_file.now new_words.old) new_words.old }
     ensures law { IfOk (rank_says (lent old_file.now new_file.now tolerances.now.channels) (room (length old_words.old) (length new_words.old) (length table.old)) table.old) (λ _. RanksRight (filed (lent old_file.now new_file.now tolerances.now.channels)) table.old table.new) }
 {
     let lent = FiledExchange {

@@ -8,24 +8,25 @@ use Rattle.systems.specs.Layout.{stored, stored_words}
 use Rattle.systems.proofs.Bounded.{all_below_from, or_else_none}
 use Rattle.likeness.specs.Within.{first_too_wide, within}
 use Rattle.std.specs.Prelude.{IfOk, option_map}
+use Rattle.systems.specs.Refused.{if_granted, unless}
 use Rattle.arena.specs.Arena.{Arena}
 use Rattle.arena.specs.Exchange.{exchange}
 use Rattle.docket.specs.Certificate.{Certifies, certificate_says}
 use Rattle.docket.specs.Judge.{judge_does, judge_says, outcome_of}
 use Rattle.docket.specs.Position.{closed, position}
-use Rattle.docket.specs.Refusals.{few_moves, if_granted, opening_refusal, unless}
+use Rattle.docket.specs.Refusals.{few_moves, opening_refusal}
 use Rattle.docket.specs.declared.certificate.Certificate.{Certificate}
 use Rattle.docket.specs.declared.certificate.CertificateFault.{CertificateFault}
 use Rattle.docket.specs.declared.refusal.Refusal.{Refusal}
 use Rattle.docket.specs.declared.refusal.Refusal.TheVariants.{NotComparable, TableTooShort}
 use Rattle.ranking.specs.Rank.{highest, ranked}
-use Rattle.ranking.specs.Rank.{left_by as rank_left_by, rank_does as table_rank_does, rank_says as table_rank_says}
+use Rattle.ranking.specs.Rank.{rank_does as table_rank_does, rank_says as table_rank_says}
 use Rattle.files.specs.Few.{Few}
 use Rattle.files.specs.SystemFile.{described, file_fault}
 use Rattle.files.specs.Words.{Holds}
 use Rattle.files.proofs.Held.{stored_is}
 use Rattle.hosting.specs.Calls.{check_says, check_says_by, decide_does, decide_says, decided, of_table, rank_does, rank_says}
-use Rattle.hosting.specs.Files.{Lent, Room, Shows, filed, files_fault, left_by}
+use Rattle.hosting.specs.Files.{Lent, Room, Shows, filed, files_fault}
 use Rattle.hosting.specs.declared.fault.FilesFault.TheVariants.{Tolerance, OldFile, NewFile, Exchange}
 
 -- a system that is small enough for a file has few moves

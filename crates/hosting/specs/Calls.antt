@@ -1,17 +1,17 @@
 -- What the calls on two files answer, and what they leave in the table.
 use Rattle.std.specs.Prelude.{ℕ, List, [], Some, None, Ok, Err, Option, Result}
+use Rattle.systems.specs.Refused.{if_granted, unless}
 use Rattle.arena.specs.Arena.{Arena}
 use Rattle.docket.specs.Certificate.{certificate_says}
 use Rattle.docket.specs.Decide.{decision}
 use Rattle.docket.specs.Judge.{outcome_of}
 use Rattle.docket.specs.Position.{closed, position}
-use Rattle.docket.specs.Refusals.{unless}
 use Rattle.docket.specs.Sweep.{Swept}
 use Rattle.docket.specs.declared.certificate.Certificate.{Certificate}
 use Rattle.docket.specs.declared.certificate.CertificateFault.{CertificateFault}
 use Rattle.docket.specs.declared.outcome.Outcome.{Outcome}
 use Rattle.ranking.specs.Rank.{highest, ranked}
-use Rattle.hosting.specs.Files.{Lent, Room, filed, files_fault, left_by}
+use Rattle.hosting.specs.Files.{Lent, Room, filed, files_fault}
 use Rattle.hosting.specs.declared.fault.CheckFault.{CheckFault}
 use Rattle.hosting.specs.declared.fault.CheckFault.TheVariants.{Files, Table}
 use Rattle.hosting.specs.declared.fault.FilesFault.{FilesFault}
@@ -26,7 +26,7 @@ decide_says e lent table = unless (files_fault e lent) (outcome_of (filed e) (de
 
 -- the table that it leaves
 abbrev pub decide_does : Lent → Room → List ℕ → List ℕ
-decide_does e lent table = left_by (files_fault e lent) (decided (filed e) table).position.table table
+decide_does e lent table = if_granted (files_fault e lent) (decided (filed e) table).position.table table
 
 -- the fault of a table as that of a check
 abbrev pub of_table : Result Certificate CertificateFault → Result Certificate CheckFault
@@ -48,4 +48,4 @@ rank_says e lent table = unless (files_fault e lent) (highest (filed e) (ranked 
 
 -- the table that it leaves
 abbrev pub rank_does : Lent → Room → List ℕ → List ℕ
-rank_does e lent table = left_by (files_fault e lent) (ranked (filed e) table) table
+rank_does e lent table = if_granted (files_fault e lent) (ranked (filed e) table) table

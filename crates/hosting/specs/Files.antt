@@ -1,5 +1,5 @@
 -- The exchange of the systems that two files describe.
-use Rattle.std.specs.Prelude.{ℕ, Bool, List, Some, None, Decides, Option, option_map}
+use Rattle.std.specs.Prelude.{ℕ, Bool, List, Decides, Option, option_map}
 use Rattle.systems.specs.Bounded.{or_else}
 use Rattle.likeness.specs.Within.{first_too_wide, within}
 use Rattle.arena.specs.Arena.{Arena}
@@ -52,11 +52,6 @@ files_fault e room =
 -- the words that are lent for a file, once its system is laid out in front
 abbrev pub laid_out : List ℕ → List ℕ → List ℕ
 laid_out bytes words = put_at words 0 (system_words (described bytes 0))
-
--- what a call leaves in memory: where there is a fault, what was there
-abbrev pub left_by : Option FilesFault → List ℕ → List ℕ → List ℕ
-left_by (Some fault) after before = before
-left_by None after before = after
 
 -- the standing pairs of a table are the largest simulation, and the new system replaces the old or does not, as is told
 abbrev pub Shows : Arena → List ℕ → Bool → Type 0

@@ -1,7 +1,8 @@
 //! Checking a table as a certificate of the exchange of two files.
 ghost use Rattle.std.specs.Prelude.{◌≡◌, length, IfOk};
+ghost use Rattle.systems.specs.Refused.{if_granted};
 ghost use Rattle.hosting.specs.Calls.{check_says};
-ghost use Rattle.hosting.specs.Files.{Shows, filed, files_fault, laid_out, left_by, lent_by, room};
+ghost use Rattle.hosting.specs.Files.{Shows, filed, files_fault, laid_out, lent_by, room};
 
 use crate::fault::CheckFault;
 use crate::filed::FiledExchange;
@@ -19,8 +20,8 @@ impl FiledExchange<'_> {
         table: &[u32],
     ) -> Result<Certificate, CheckFault>
         ensures answer { result ≡ check_says (lent_by self.now) (room (length old_words.old) (length new_words.old) (length table.now)) table.now }
-        ensures old { old_words.new ≡ left_by (files_fault (lent_by self.now) (room (length old_words.old) (length new_words.old) (length table.now))) (laid_out self.now.old_file.now old_words.old) old_words.old }
-        ensures new { new_words.new ≡ left_by (files_fault (lent_by self.now) (room (length old_words.old) (length new_words.old) (length table.now))) (laid_out self.now.new_file.now new_words.old) new_words.old }
+        ensures old { old_words.new ≡ if_granted (files_fault (lent_by self.now) (room (length old_words.old) (length new_words.old) (length table.now))) (laid_out self.now.old_file.now old_words.old) old_words.old }
+        ensures new { new_words.new ≡ if_granted (files_fault (lent_by self.now) (room (length old_words.old) (length new_words.old) (length table.now))) (laid_out self.now.new_file.now new_words.old) new_words.old }
         ensures law { IfOk result (λ certificate. Shows (filed (lent_by self.now)) table.now certificate.replaces) }
     {
         let likeness = self.take_in(old_words, new_words, table.len())?;

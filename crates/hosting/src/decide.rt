@@ -1,7 +1,8 @@
 //! Deciding the exchange of two files.
 ghost use Rattle.std.specs.Prelude.{◌≡◌, length, IfOk};
+ghost use Rattle.systems.specs.Refused.{if_granted};
 ghost use Rattle.hosting.specs.Calls.{decide_does, decide_says};
-ghost use Rattle.hosting.specs.Files.{Shows, filed, files_fault, laid_out, left_by, lent_by, room};
+ghost use Rattle.hosting.specs.Files.{Shows, filed, files_fault, laid_out, lent_by, room};
 
 use crate::fault::FilesFault;
 use crate::filed::FiledExchange;
@@ -20,8 +21,8 @@ impl FiledExchange<'_> {
     ) -> Result<Outcome, FilesFault>
         ensures answer { result ≡ decide_says (lent_by self.now) (room (length old_words.old) (length new_words.old) (length table.old)) table.old }
         ensures table { table.new ≡ decide_does (lent_by self.now) (room (length old_words.old) (length new_words.old) (length table.old)) table.old }
-        ensures old { old_words.new ≡ left_by (files_fault (lent_by self.now) (room (length old_words.old) (length new_words.old) (length table.old))) (laid_out self.now.old_file.now old_words.old) old_words.old }
-        ensures new { new_words.new ≡ left_by (files_fault (lent_by self.now) (room (length old_words.old) (length new_words.old) (length table.old))) (laid_out self.now.new_file.now new_words.old) new_words.old }
+        ensures old { old_words.new ≡ if_granted (files_fault (lent_by self.now) (room (length old_words.old) (length new_words.old) (length table.old))) (laid_out self.now.old_file.now old_words.old) old_words.old }
+        ensures new { new_words.new ≡ if_granted (files_fault (lent_by self.now) (room (length old_words.old) (length new_words.old) (length table.old))) (laid_out self.now.new_file.now new_words.old) new_words.old }
         ensures law { IfOk result (λ outcome. Shows (filed (lent_by self.now)) table.new outcome.replaces) }
     {
         let likeness = self.take_in(old_words, new_words, table.len())?;

@@ -1,15 +1,16 @@
 //! Two system files that are lent for an exchange.
 ghost use Rattle.std.specs.Prelude.{◌≡◌, ℕ, ◌*◌, ◌≤◌, Bool, length, Some, None, OnOk, IfOk, MatchResult, option_map};
 ghost use Rattle.systems.specs.Meaning.{Reading};
+ghost use Rattle.systems.specs.Refused.{if_granted, unless};
 ghost use Rattle.arena.specs.Exchange.{exchange};
-ghost use Rattle.docket.specs.Refusals.{opening_refusal, unless};
+ghost use Rattle.docket.specs.Refusals.{opening_refusal};
 ghost use Rattle.files.specs.Few.{Few};
 ghost use Rattle.files.specs.SystemFile.{described, file_words};
 ghost use Rattle.files.specs.Words.{Holds};
 ghost use Rattle.likeness.specs.Within.{first_too_wide};
 ghost use Rattle.hosting.specs.declared.fault.FilesFault.TheVariants.{Tolerance};
 ghost use Rattle.hosting.specs.Tested.{IsTested};
-ghost use Rattle.hosting.specs.Files.{filed, files_fault, laid_out, left_by, lent_by, room};
+ghost use Rattle.hosting.specs.Files.{filed, files_fault, laid_out, lent_by, room};
 
 use crate::fault::FilesFault;
 use docket::Refusal;
@@ -105,8 +106,8 @@ impl<'a> FiledExchange<'a> {
     ) -> Result<Within, FilesFault>
         ensures answer { MatchResult result (λ _. files_fault (lent_by self.now) (room (length old_words.old) (length new_words.old) entries) ≡ None) (λ fault. files_fault (lent_by self.now) (room (length old_words.old) (length new_words.old) entries) ≡ Some fault) }
         ensures likeness { IfOk result (λ within. within.tolerances ≡ self.now.tolerances) }
-        ensures old { old_words.new ≡ left_by (files_fault (lent_by self.now) (room (length old_words.old) (length new_words.old) entries)) (laid_out self.now.old_file.now old_words.old) old_words.old }
-        ensures new { new_words.new ≡ left_by (files_fault (lent_by self.now) (room (length old_words.old) (length new_words.old) entries)) (laid_out self.now.new_file.now new_words.old) new_words.old }
+        ensures old { old_words.new ≡ if_granted (files_fault (lent_by self.now) (room (length old_words.old) (length new_words.old) entries)) (laid_out self.now.old_file.now old_words.old) old_words.old }
+        ensures new { new_words.new ≡ if_granted (files_fault (lent_by self.now) (room (length old_words.old) (length new_words.old) entries)) (laid_out self.now.new_file.now new_words.old) new_words.old }
         ensures opens { OnOk result (opening_refusal (filed (lent_by self.now)) entries ≡ None) }
         ensures old_held { OnOk result (Holds (described self.now.old_file.now 0) old_words.new) }
         ensures new_held { OnOk result (Holds (described self.now.new_file.now 0) new_words.new) }

@@ -1,6 +1,7 @@
 -- What the calls on two systems answer, and what they leave in the table.
 use Rattle.std.specs.Prelude.{ℕ, List, Some, None, Ok, Err, Option, Result}
 use Rattle.systems.specs.Meaning.{Meaning}
+use Rattle.systems.specs.Refused.{if_granted}
 use Rattle.likeness.specs.Within.{first_too_wide, within}
 use Rattle.arena.specs.Arena.{Arena}
 use Rattle.arena.specs.Exchange.{exchange}
@@ -31,11 +32,6 @@ abbrev pub unless_too_wide : {X F : Type 0} → Option ℕ → (FilesFault → F
 unless_too_wide (Some channel) as_fault answer = Err (as_fault (Tolerance channel))
 unless_too_wide None as_fault answer = answer
 
--- what is left, unless a tolerance is too wide
-abbrev pub left_unless : Option ℕ → List ℕ → List ℕ → List ℕ
-left_unless (Some channel) after before = before
-left_unless None after before = after
-
 -- what a decision answers
 abbrev pub decide_says : List ℕ → Meaning → Meaning → List ℕ → Result Outcome FilesFault
 decide_says tolerances old new table =
@@ -43,7 +39,7 @@ decide_says tolerances old new table =
 
 -- the table that it leaves
 abbrev pub decide_does : List ℕ → Meaning → Meaning → List ℕ → List ℕ
-decide_does tolerances old new table = left_unless (first_too_wide tolerances) (judge_does (layers tolerances old new) (position closed table)).table table
+decide_does tolerances old new table = if_granted (first_too_wide tolerances) (judge_does (layers tolerances old new) (position closed table)).table table
 
 -- what a certificate check answers
 abbrev pub check_says : List ℕ → Meaning → Meaning → List ℕ → Result Certificate CheckFault
@@ -55,4 +51,4 @@ rank_says tolerances old new table = unless_too_wide (first_too_wide tolerances)
 
 -- the table that it leaves
 abbrev pub rank_does : List ℕ → Meaning → Meaning → List ℕ → List ℕ
-rank_does tolerances old new table = left_unless (first_too_wide tolerances) (ranking_does (layers tolerances old new) table) table
+rank_does tolerances old new table = if_granted (first_too_wide tolerances) (ranking_does (layers tolerances old new) table) table

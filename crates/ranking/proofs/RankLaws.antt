@@ -3,6 +3,7 @@ use Rattle.std.proofs.Common.{◌≡◌, ℕ, zero, suc, ◌+◌, ◌*◌, ◌/�
 use native.Mathlib.Nat.{le-max_left, le-max_right}
 use Rattle.std.proofs.lemmas.Nat.{div-add-mod', div_below, mod_below}
 use Rattle.std.proofs.lemmas.Bool.{and_from, and_parts, cases_Bool, cases_eq, cases_lt, eqb-false, eqb-true, lt-ltb, ltb-true, not_from_false, not_from_true, not-true, or_from, or_left, or_right}
+use Rattle.systems.specs.Refused.{if_granted}
 use Rattle.arena.proofs.Bounds.{count_below_most}
 use Rattle.arena.proofs.Simulation.{Calm, Ordered, largest, refuted_more}
 use Rattle.arena.specs.Arena.{Arena, Closed}
@@ -12,7 +13,7 @@ use Rattle.docket.proofs.Good.{place}
 use Rattle.docket.proofs.Grounds.{fitting_room, openable_fits}
 use Rattle.docket.proofs.Laws.{settled_accepted}
 use Rattle.ranking.proofs.Ranked.{rounds_keep, rounds_solve, seen, sighted_below}
-use Rattle.ranking.specs.Rank.{RanksRight, SolvesRanks, highest, highest_below, left_by, rank_does, ranked, sighted}
+use Rattle.ranking.specs.Rank.{RanksRight, SolvesRanks, highest, highest_below, rank_does, ranked, sighted}
 use Rattle.docket.specs.Refusals.{opening_refusal}
 
 module _ (A : Arena) (c : Closed A) where
@@ -135,4 +136,4 @@ module _ (A : Arena) (c : Closed A) (before : List ℕ) (granted : opening_refus
 
   -- and so the table that it says it leaves
   pub left_right : (after : List ℕ) → after ≡ rank_does A before → RanksRight A before after
-  left_right after e = subst (λ t. RanksRight A before t) (sym (e ∙ ap (λ o. left_by o (ranked A before) before) granted)) ranked_right
+  left_right after e = subst (λ t. RanksRight A before t) (sym (e ∙ ap (λ o. if_granted o (ranked A before) before) granted)) ranked_right

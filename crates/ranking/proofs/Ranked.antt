@@ -12,7 +12,7 @@ use Rattle.docket.proofs.Good.{place, same_pair}
 use Rattle.ranking.proofs.RankSteps.{round_still}
 use Rattle.ranking.specs.Rank.{Ranking, SolvesRanks, rank_pair, rank_round, rank_rounds, rank_row, rank_rows, ranking, sight_rank, sight_row, sight_rows, sighted, with_entry}
 
--- Entries written by index: those of the pairs below the n-th are new, and all others are as before.
+-- Entries written by place: those of the pairs below the n-th are new, and all others are as before.
 pub record Filled (A : Arena) (new : ℕ → ℕ → ℕ) (before : List ℕ) (n : ℕ) (t : List ℕ) : Type 0 where
   pub size : length t ≡ length before
   pub done : (w v : ℕ) → v < A.new_states → w * A.new_states + v < n → entry A t w v ≡ new w v

@@ -1,10 +1,11 @@
 -- Ranks: how soon each pair is refuted.
-use Rattle.std.specs.Prelude.{◌≡◌, ℕ, zero, suc, ◌+◌, ◌*◌, ◌<◌, ◌≤◌, max, true, false, cond, ◌&&◌, List, length, drop, Some, None, Ok, Option, Result, ◌==◌, ◌≢◌, slice_index, slice_set}
+use Rattle.std.specs.Prelude.{◌≡◌, ℕ, zero, suc, ◌+◌, ◌*◌, ◌<◌, ◌≤◌, max, true, false, cond, ◌&&◌, List, length, drop, Some, Ok, Result, ◌==◌, ◌≢◌, slice_index, slice_set}
+use Rattle.systems.specs.Refused.{if_granted, unless}
 use Rattle.arena.specs.Arena.{Arena}
 use Rattle.arena.specs.Pairs.{Largest, refuted}
 use Rattle.arena.specs.Table.{entry, pairs, standing, stands, struck}
 use Rattle.docket.specs.Certificate.{certificate, certificate_says}
-use Rattle.docket.specs.Refusals.{opening_refusal, unless}
+use Rattle.docket.specs.Refusals.{opening_refusal}
 use Rattle.docket.specs.declared.refusal.Refusal.{Refusal}
 
 -- The rule for one pair: 1 if it is unlike, else the least number from 2 on such that some move refutes it when only entries from 1 to below that number count as struck, or 0 if there is none.
@@ -65,7 +66,7 @@ abbrev pub rank_rows : Arena → ℕ → ℕ → Ranking → Ranking
 rank_rows A k zero y = y
 rank_rows A k (suc w) y = rank_row A k w A.new_states (rank_rows A k w y)
 
--- round k: the pairs by index
+-- round k: the pairs by place
 abbrev pub rank_round : Arena → ℕ → List ℕ → Ranking
 rank_round A k table = rank_rows A k A.old_states (ranking table 0)
 
@@ -90,18 +91,13 @@ highest_below (suc i) table = max (highest_below i table) (slice_index table i)
 abbrev pub highest : Arena → List ℕ → ℕ
 highest A table = highest_below (pairs A) table
 
--- the table that a call leaves: a refused one changes nothing
-abbrev pub left_by : Option Refusal → List ℕ → List ℕ → List ℕ
-left_by (Some refusal) after before = before
-left_by None after before = after
-
 -- a ranking answers the highest rank
 abbrev pub rank_says : Arena → List ℕ → Result ℕ Refusal
 rank_says A table = unless (opening_refusal A (length table)) (highest A (ranked A table))
 
 -- what a ranking leaves
 abbrev pub rank_does : Arena → List ℕ → List ℕ
-rank_does A table = left_by (opening_refusal A (length table)) (ranked A table) table
+rank_does A table = if_granted (opening_refusal A (length table)) (ranked A table) table
 
 -- What a granted ranking leaves: the entries are the ranks, and no other table has others; the standing pairs are the largest simulation, the certificate check accepts the table, and the entries behind those of the pairs are as before.
 pub record RanksRight (A : Arena) (before after : List ℕ) : Type 0 where

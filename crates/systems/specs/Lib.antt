@@ -1,4 +1,5 @@
 pub mod Bounded
+pub mod Refused
 pub mod Meaning
 pub mod Layout
 pub mod Laws

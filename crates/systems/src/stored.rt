@@ -1,5 +1,5 @@
 //! A system that lies in words held for reading.
-ghost use Rattle.std.specs.Prelude.{◌≡◌, ◌<◌, ◌≤◌, MatchOption, IfSome, IfSome};
+ghost use Rattle.std.specs.Prelude.{◌≡◌, ◌<◌, ◌≤◌, MatchOption, IfSome};
 ghost use Rattle.systems.specs.Layout.{LaidOut, state_count, stored, stored_words};
 ghost use Rattle.systems.specs.Laws.{stored_lawful};
 

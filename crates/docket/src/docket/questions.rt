@@ -1,8 +1,9 @@
 //! A new docket, and what a docket tells of itself.
 ghost use Rattle.std.specs.Prelude.{◌≡◌, ◌*◌, ◌≤◌, length, if◌then◌else◌, Some, None, OnOk};
+ghost use Rattle.systems.specs.Refused.{unless};
 ghost use Rattle.arena.specs.Table.{pairs};
 ghost use Rattle.docket.specs.Position.{closed, position};
-ghost use Rattle.docket.specs.Refusals.{unless, use_refusal};
+ghost use Rattle.docket.specs.Refusals.{use_refusal};
 ghost use Rattle.docket.specs.Seen.{ledger_view};
 ghost use Rattle.docket.specs.Use.{InUse};
 

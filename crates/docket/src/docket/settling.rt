@@ -26,7 +26,7 @@ fn first_loose_in<A: Arena>(board: &Board<'_, A>, row: u16) -> Option<Strike>
     (0..board.arena.new_states()).find_map(|column| loose_strike(board, (row, column)))
 }
 
-/// The strike that the first loose pair by index can get.
+/// The strike that the first loose pair by place can get.
 fn first_loose<A: Arena>(board: &Board<'_, A>) -> Option<Strike>
     ensures { result ≡ first_loose (A.Arena.view board.now.arena.now) board.now.table.now }
 {

@@ -1,9 +1,10 @@
 //! Striking a pair.
 ghost use Rattle.std.specs.Prelude.{◌≡◌, ◌+◌, ◌*◌, ◌<◌, ◌≤◌, length, None, OnOk, nat_le, slice_set};
+ghost use Rattle.systems.specs.Refused.{unless};
 ghost use Rattle.arena.specs.Pairs.{refutes};
 ghost use Rattle.arena.specs.Table.{pairs, struck};
 ghost use Rattle.docket.specs.Position.{one_more, position};
-ghost use Rattle.docket.specs.Refusals.{cause_refusal, pair_refusal, unless};
+ghost use Rattle.docket.specs.Refusals.{cause_refusal, pair_refusal};
 ghost use Rattle.docket.specs.Seen.{ledger_view};
 ghost use Rattle.docket.specs.Use.{InUse};
 ghost use Rattle.docket.specs.Strikes.{strike_does, strike_says};

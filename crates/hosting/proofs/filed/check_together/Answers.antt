@@ -1,5 +1,5 @@
 use Rattle.std.proofs.Common.{rules, sym, ap}
-use Rattle.docket.specs.Refusals.{unless}
+use Rattle.systems.specs.Refused.{unless}
 use Rattle.hosting.proofs.Taken.{opening_granted, opening_refused_for_table}
 use Rattle.hosting.proofs.filed.check_together.Goals as goal
 

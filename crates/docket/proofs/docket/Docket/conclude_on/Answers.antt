@@ -1,4 +1,4 @@
-use Rattle.std.proofs.Common.{◌≡◌, true, false, Ok, sym, ap, subst, ◌∙◌, rules}
+use Rattle.std.proofs.Common.{◌≡◌, true, false, Ok, sym, subst, ◌∙◌, rules}
 use Rattle.arena.specs.Table.{number_standing}
 use Rattle.docket.proofs.Decided.{settled_behind_sweeps, used_under_way}
 use Rattle.docket.proofs.Grounds.{in_use}
