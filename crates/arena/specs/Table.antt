@@ -1,9 +1,9 @@
 -- Tables of strikes: what their entries say of the pairs.
-use Rattle.std.specs.Prelude.{ℕ, ◌+◌, ◌*◌, Bool, cond, not, ◌&&◌, ◌||◌, List, Some, None, Option, ◌==◌, nat_le, nat_lt, slice_index}
+use Rattle.std.specs.Prelude.{ℕ, ◌+◌, ◌*◌, Bool, cond, not, ◌&&◌, ◌||◌, List, Some, None, Decides, Option, ◌==◌, nat_le, nat_lt, slice_index}
 use Rattle.systems.specs.Bounded.{first_below}
 use Rattle.arena.specs.Arena.{Arena}
 use Rattle.arena.specs.Bounds.{count_below}
-use Rattle.arena.specs.Pairs.{Relation, refuted, refutes}
+use Rattle.arena.specs.Pairs.{Largest, Relation, Replaces, refuted, refutes}
 use Rattle.arena.specs.declared.cause.Cause.{Cause}
 use Rattle.arena.specs.declared.cause.Cause.TheVariants.{Sight, Move}
 
@@ -35,6 +35,10 @@ standing A table w v = nat_lt w A.old_states && (nat_lt v A.new_states && stands
 -- whether the pair of start states stands
 abbrev pub start_stands : Arena → List ℕ → Bool
 start_stands A table = standing A table 0 0
+
+-- the standing pairs are the largest simulation, and the new system replaces the old or does not, as is told
+abbrev pub Shows : Arena → List ℕ → Bool → Type 0
+Shows A table replaces = Largest A (standing A table) × Decides replaces (Replaces A)
 
 -- how many pairs stand
 abbrev pub number_standing : Arena → List ℕ → ℕ

@@ -1,10 +1,9 @@
 -- Certificate checks.
-use Rattle.std.specs.Prelude.{ℕ, cond, List, length, Some, None, Ok, Err, Decides, Option, Result}
+use Rattle.std.specs.Prelude.{ℕ, cond, List, length, Some, None, Ok, Err, Option, Result}
 use Rattle.systems.specs.Bounded.{first_below, or_else}
 use Rattle.systems.specs.Refused.{unless}
 use Rattle.arena.specs.Arena.{Arena}
-use Rattle.arena.specs.Pairs.{Largest, Replaces}
-use Rattle.arena.specs.Table.{in_order, number_standing, standing, stands, start_stands}
+use Rattle.arena.specs.Table.{Shows, in_order, number_standing, stands, start_stands}
 use Rattle.docket.specs.Refusals.{opening_refusal, refusal_number}
 use Rattle.docket.specs.declared.certificate.Certificate.{Certificate}
 use Rattle.docket.specs.declared.certificate.CertificateFault.{CertificateFault}
@@ -38,7 +37,7 @@ certificate_says A table = unless (or_else (refused (opening_refusal A (length t
 
 -- what an answer tells of the table: only one whose standing pairs are the largest simulation is accepted, and then it tells whether the new system replaces the old
 abbrev pub Certifies : Arena → List ℕ → Result Certificate CertificateFault → Type 0
-Certifies A table (Ok c) = Largest A (standing A table) × Decides c.replaces (Replaces A)
+Certifies A table (Ok c) = Shows A table c.replaces
 Certifies A table (Err fault) = Unit {0}
 
 -- the number of each fault

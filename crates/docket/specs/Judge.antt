@@ -1,9 +1,8 @@
 -- Judgements: decisions without proposals, which hand back no list.
-use Rattle.std.specs.Prelude.{ℕ, List, [], length, Ok, Err, Decides, Result}
+use Rattle.std.specs.Prelude.{ℕ, List, [], length, Ok, Err, Result}
 use Rattle.systems.specs.Refused.{if_granted, unless}
 use Rattle.arena.specs.Arena.{Arena}
-use Rattle.arena.specs.Pairs.{Largest, Replaces}
-use Rattle.arena.specs.Table.{number_standing, standing, start_stands}
+use Rattle.arena.specs.Table.{Shows, number_standing, start_stands}
 use Rattle.docket.specs.Decide.{decision}
 use Rattle.docket.specs.Position.{Position}
 use Rattle.docket.specs.Refusals.{opening_refusal}
@@ -25,5 +24,5 @@ judge_does A x = if_granted (opening_refusal A (length x.table)) (decision A x [
 
 -- what an answer tells of the table: its standing pairs are the largest simulation, and the new system replaces the old or does not, as it says
 abbrev pub Judges : Arena → List ℕ → Result Outcome Refusal → Type 0
-Judges A table (Ok o) = Largest A (standing A table) × Decides o.replaces (Replaces A)
+Judges A table (Ok o) = Shows A table o.replaces
 Judges A table (Err refusal) = Unit {0}

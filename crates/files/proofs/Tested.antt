@@ -2,7 +2,7 @@
 use Rattle.std.proofs.Common.{◌≡◌, ℕ, ◌+◌, ◌-◌, ◌<◌, ◌≤◌, cond, ltb, List, Some, None, sym, refl, ap, subst, arith}
 use Rattle.std.proofs.lemmas.Bool.Decides.{nat_tests}
 use Rattle.std.proofs.lemmas.Bool.{le-ltb}
-use Rattle.systems.specs.Bounded.{within, or_else}
+use Rattle.systems.specs.Bounded.{between, or_else}
 use Rattle.systems.specs.Layout.{words_taken}
 use Rattle.systems.proofs.Bounded.{or_else_none, first_below_none_all, first_below_none_from}
 use Rattle.files.specs.Sequence.{value_at, skip}
@@ -19,7 +19,7 @@ pub record Fits (bytes : List ℕ) (place w least most : ℕ) : Type 0 where
 
 pub refused_none : (bytes : List ℕ) (place w : ℕ) (allowed : Allowed) → refused bytes place w allowed ≡ None → Fits bytes place w allowed.least allowed.most
 refused_none bytes place w allowed h =
-    let both = or_else_none (unread bytes place w) (cond (within allowed.least allowed.most (value_at bytes place)) None (Some (fault allowed.otherwise place w))) h in
+    let both = or_else_none (unread bytes place w) (cond (between allowed.least allowed.most (value_at bytes place)) None (Some (fault allowed.otherwise place w))) h in
     record { read = both.0; low = grind (arith, nat_tests, both.1); high = grind (arith, nat_tests, both.1) }
 
 -- the row of state w

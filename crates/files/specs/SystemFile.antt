@@ -2,7 +2,7 @@
 use Rattle.std.specs.Prelude.{ℕ, zero, suc, ◌+◌, ◌-◌, ◌*◌, ◌≤◌, cond, ◌&&◌, List, Some, None, Ok, Err, Option, Result, nat_lt}
 use Rattle.codec.specs.Filing.{unfiled}
 use Rattle.codec.specs.declared.number.NumberFault.{NumberFault}
-use Rattle.systems.specs.Bounded.{within, or_else, first_below}
+use Rattle.systems.specs.Bounded.{between, first_below, or_else}
 use Rattle.systems.specs.Layout.{words_taken}
 use Rattle.systems.specs.Meaning.{Meaning, no_question}
 use Rattle.files.specs.Sequence.{number_at, value_at, after, skip, nth}
@@ -46,7 +46,7 @@ unread bytes place w = unread_by place w (number_at bytes place)
 abbrev pub refused : List ℕ → ℕ → ℕ → Allowed → Option ReadFault
 refused bytes place w allowed =
     or_else (unread bytes place w)
-    (cond (within allowed.least allowed.most (value_at bytes place)) None (Some (fault allowed.otherwise place w)))
+    (cond (between allowed.least allowed.most (value_at bytes place)) None (Some (fault allowed.otherwise place w)))
 
 -- a row of c channels that begins at start has the readings, p, q and the next states; this is where p begins
 abbrev pub controller_place : List ℕ → ℕ → ℕ → ℕ

@@ -1,12 +1,13 @@
 //! The exported calls, each a call of a library with its answer as C takes it.
 ghost use Rattle.std.specs.Prelude.{◌≡◌, ◌-◌, ◌++◌, length, drop, is_none, IfOk, if◌then◌else◌};
 ghost use Rattle.systems.specs.Refused.{if_granted, unless};
+ghost use Rattle.arena.specs.Table.{Shows};
 ghost use Rattle.files.specs.SystemFile.{described, file_fault, file_read};
 ghost use Rattle.files.specs.SystemWrite.{system_bytes, write_fault};
 ghost use Rattle.files.specs.Words.{put_at, system_words};
 ghost use Rattle.ranking.specs.Rank.{RanksRight};
 ghost use Rattle.hosting.specs.Calls.{check_says, decide_does, decide_says, rank_does, rank_says};
-ghost use Rattle.hosting.specs.Files.{Shows, filed, files_fault, laid_out, lent, room};
+ghost use Rattle.hosting.specs.Files.{filed, files_fault, laid_out, lent, room};
 ghost use Rattle.hosting.specs.Answers.{certificate_of, decision_of, ranks_of, read_of, written_of};
 ghost use Rattle.hosting.specs.Held.{held};
 

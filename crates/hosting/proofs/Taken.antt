@@ -11,6 +11,7 @@ use Rattle.std.specs.Prelude.{IfOk, option_map}
 use Rattle.systems.specs.Refused.{if_granted, unless}
 use Rattle.arena.specs.Arena.{Arena}
 use Rattle.arena.specs.Exchange.{exchange}
+use Rattle.arena.specs.Table.{Shows}
 use Rattle.docket.specs.Certificate.{Certifies, certificate_says}
 use Rattle.docket.specs.Judge.{judge_does, judge_says, outcome_of}
 use Rattle.docket.specs.Position.{closed, position}
@@ -26,7 +27,7 @@ use Rattle.files.specs.SystemFile.{described, file_fault}
 use Rattle.files.specs.Words.{Holds}
 use Rattle.files.proofs.Held.{stored_is}
 use Rattle.hosting.specs.Calls.{check_says, check_says_by, decide_does, decide_says, decided, of_table, rank_does, rank_says}
-use Rattle.hosting.specs.Files.{Lent, Room, Shows, filed, files_fault}
+use Rattle.hosting.specs.Files.{Lent, Room, filed, files_fault}
 use Rattle.hosting.specs.declared.fault.FilesFault.TheVariants.{Tolerance, OldFile, NewFile, Exchange}
 
 -- a system that is small enough for a file has few moves

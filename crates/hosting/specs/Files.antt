@@ -1,11 +1,9 @@
 -- The exchange of the systems that two files describe.
-use Rattle.std.specs.Prelude.{ℕ, Bool, List, Decides, Option, option_map}
+use Rattle.std.specs.Prelude.{ℕ, List, Option, option_map}
 use Rattle.systems.specs.Bounded.{or_else}
 use Rattle.likeness.specs.Within.{first_too_wide, within}
 use Rattle.arena.specs.Arena.{Arena}
 use Rattle.arena.specs.Exchange.{exchange}
-use Rattle.arena.specs.Pairs.{Largest, Replaces}
-use Rattle.arena.specs.Table.{standing}
 use Rattle.docket.specs.Refusals.{opening_refusal}
 use Rattle.files.specs.SystemFile.{described, file_fault}
 use Rattle.files.specs.Words.{put_at, system_words}
@@ -52,7 +50,3 @@ files_fault e room =
 -- the words that are lent for a file, once its system is laid out in front
 abbrev pub laid_out : List ℕ → List ℕ → List ℕ
 laid_out bytes words = put_at words 0 (system_words (described bytes 0))
-
--- the standing pairs of a table are the largest simulation, and the new system replaces the old or does not, as is told
-abbrev pub Shows : Arena → List ℕ → Bool → Type 0
-Shows A table replaces = Largest A (standing A table) × Decides replaces (Replaces A)

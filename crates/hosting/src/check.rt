@@ -1,8 +1,9 @@
 //! Checking a table as a certificate of the exchange of two files.
 ghost use Rattle.std.specs.Prelude.{◌≡◌, length, IfOk};
 ghost use Rattle.systems.specs.Refused.{if_granted};
+ghost use Rattle.arena.specs.Table.{Shows};
 ghost use Rattle.hosting.specs.Calls.{check_says};
-ghost use Rattle.hosting.specs.Files.{Shows, filed, files_fault, laid_out, lent_by, room};
+ghost use Rattle.hosting.specs.Files.{filed, files_fault, laid_out, lent_by, room};
 
 use crate::fault::CheckFault;
 use crate::filed::FiledExchange;

@@ -1,8 +1,9 @@
 //! Deciding the exchange of two files.
 ghost use Rattle.std.specs.Prelude.{◌≡◌, length, IfOk};
 ghost use Rattle.systems.specs.Refused.{if_granted};
+ghost use Rattle.arena.specs.Table.{Shows};
 ghost use Rattle.hosting.specs.Calls.{decide_does, decide_says};
-ghost use Rattle.hosting.specs.Files.{Shows, filed, files_fault, laid_out, lent_by, room};
+ghost use Rattle.hosting.specs.Files.{filed, files_fault, laid_out, lent_by, room};
 
 use crate::fault::FilesFault;
 use crate::filed::FiledExchange;

@@ -1,5 +1,6 @@
 //! Two files whose systems are laid out.
 ghost use Rattle.std.specs.Prelude.{◌≡◌, length, None, IfOk};
+ghost use Rattle.arena.specs.Table.{Shows};
 ghost use Rattle.docket.specs.Certificate.{certificate_says};
 ghost use Rattle.docket.specs.Judge.{Judges, judge_does, judge_says};
 ghost use Rattle.docket.specs.Position.{closed, position};
@@ -7,7 +8,7 @@ ghost use Rattle.docket.specs.Refusals.{opening_refusal};
 ghost use Rattle.ranking.specs.Rank.{RanksRight, rank_does, rank_says};
 ghost use Rattle.files.specs.SystemFile.{described};
 ghost use Rattle.files.specs.Words.{Holds};
-ghost use Rattle.hosting.specs.Files.{Shows, filed, lent_by};
+ghost use Rattle.hosting.specs.Files.{filed, lent_by};
 
 use crate::filed::FiledExchange;
 use arena::Exchange;

@@ -11,17 +11,17 @@ use Rattle.std.specs.Option.{option_map}
 use Rattle.std.specs.declared.ops.Range.{Range}
 use Rattle.std.proofs.iter.Yields.{nat_range_steps}
 use Rattle.std.proofs.iter.runs.Sources.{range_runs}
-use Rattle.systems.specs.Bounded.{within, all_below, or_else, first_below}
+use Rattle.systems.specs.Bounded.{all_below, between, first_below, or_else}
 
 -- a number in a range
 
-pub within_true : (least most x : ℕ) → within least most x ≡ true → (least ≤ x) × (x ≤ most)
-within_true least most x h =
+pub between_true : (least most x : ℕ) → between least most x ≡ true → (least ≤ x) × (x ≤ most)
+between_true least most x h =
     let both = and_parts (leb least x) (leb x most) h in
     (leb-true least x both.0, leb-true x most both.1)
 
-pub within_from : (least most x : ℕ) → least ≤ x → x ≤ most → within least most x ≡ true
-within_from least most x low high = and_from (leb least x) (leb x most) (le-leb least x low) (le-leb x most high)
+pub between_from : (least most x : ℕ) → least ≤ x → x ≤ most → between least most x ≡ true
+between_from least most x low high = and_from (leb least x) (leb x most) (le-leb least x low) (le-leb x most high)
 
 -- every number below the bound
 

@@ -3,8 +3,8 @@ use Rattle.std.proofs.Common.{◌≡◌, ℕ, suc, ◌<◌, ◌≤◌, Bool, tru
 use Rattle.std.proofs.lemmas.Nat.{mul-le}
 use Rattle.std.proofs.lemmas.Bool.{and_from, and_parts, cond_both, cond-false, cond-true, false≢true, le-ltb, lt-ltb, ltb-false, ltb-true, not-false, not_from_true}
 use Rattle.std.proofs.lemmas.Bool.Decides.{Decides-at}
-use Rattle.systems.proofs.Bounded.{all_below_from, all_below_true, first_below_none_all, first_below_none_from, within_from, within_true}
-use Rattle.systems.specs.Bounded.{first_below, within}
+use Rattle.systems.proofs.Bounded.{all_below_from, all_below_true, between_from, between_true, first_below_none_all, first_below_none_from}
+use Rattle.systems.specs.Bounded.{between, first_below}
 use Rattle.systems.specs.Layout.{LaidOut, RowHeld, RowLaidOut, channel_count, controller_word, environment_word, layout, move_fits, next_fits, next_states_fit, next_word, resting, row_fault, row_words, rows_answer, state_count, stored_words, words_taken}
 use Rattle.systems.specs.declared.layout.LayoutFault.{LayoutFault}
 use Rattle.systems.specs.declared.layout.LayoutFault.TheVariants.{States, Channels, TooShort, Moves, NextState}
@@ -43,11 +43,11 @@ pub row_sound : (words : List ℕ) (w : ℕ) → row_fault words w ≡ None → 
 row_sound words w h =
     let p : ℕ = controller_word words w in
     let q : ℕ = environment_word words w in
-    let first = none_past (not (within 1 16 p && within 1 16 q)) Moves (cond (not (next_states_fit words w)) (Some NextState) None) h in
+    let first = none_past (not (between 1 16 p && between 1 16 q)) Moves (cond (not (next_states_fit words w)) (Some NextState) None) h in
     let second = none_past (not (next_states_fit words w)) NextState None first.1 in
-    let counts = and_parts (within 1 16 p) (within 1 16 q) (not-false (within 1 16 p && within 1 16 q) first.0) in
-    let controller = within_true 1 16 p counts.0 in
-    let environment = within_true 1 16 q counts.1 in
+    let counts = and_parts (between 1 16 p) (between 1 16 q) (not-false (between 1 16 p && between 1 16 q) first.0) in
+    let controller = between_true 1 16 p counts.0 in
+    let environment = between_true 1 16 q counts.1 in
     (controller.0, controller.1, environment.0, environment.1, next_states_true words w (not-false (next_states_fit words w) second.0))
 
 -- a row that has the layout has no fault
@@ -55,9 +55,9 @@ pub row_complete : (words : List ℕ) (w : ℕ) → RowLaidOut words w → row_f
 row_complete words w ok =
     let p : ℕ = controller_word words w in
     let q : ℕ = environment_word words w in
-    let counts : (within 1 16 p && within 1 16 q) ≡ true =
-    and_from (within 1 16 p) (within 1 16 q) (within_from 1 16 p ok.0 ok.1) (within_from 1 16 q ok.2 ok.3) in
-    cond-false (not (within 1 16 p && within 1 16 q)) (Some Moves) _ (not_from_true (within 1 16 p && within 1 16 q) counts)
+    let counts : (between 1 16 p && between 1 16 q) ≡ true =
+    and_from (between 1 16 p) (between 1 16 q) (between_from 1 16 p ok.0 ok.1) (between_from 1 16 q ok.2 ok.3) in
+    cond-false (not (between 1 16 p && between 1 16 q)) (Some Moves) _ (not_from_true (between 1 16 p && between 1 16 q) counts)
     ∙ cond-false (not (next_states_fit words w)) (Some NextState) None (not_from_true (next_states_fit words w) (next_states_from words w ok.4))
 
 -- the check of the rows passes only where no row has a fault
@@ -71,12 +71,12 @@ layout_sound words h =
     let n : ℕ = state_count words in
     let c : ℕ = channel_count words in
     let header = ok_past (ltb (length words) 2) TooShort _ h in
-    let states = ok_past (not (within 1 256 n)) States _ header.1 in
-    let channels = ok_past (not (within 1 8 c)) Channels _ states.1 in
+    let states = ok_past (not (between 1 256 n)) States _ header.1 in
+    let channels = ok_past (not (between 1 8 c)) Channels _ states.1 in
     let room = ok_past (ltb (length words) (words_taken n c)) TooShort _ channels.1 in
     let rows = rows_none words (first_below n (row_fault words)) room.1 in
-    let few_states = within_true 1 256 n (not-false (within 1 256 n) states.0) in
-    let few_channels = within_true 1 8 c (not-false (within 1 8 c) channels.0) in (
+    let few_states = between_true 1 256 n (not-false (between 1 256 n) states.0) in
+    let few_channels = between_true 1 8 c (not-false (between 1 8 c) channels.0) in (
       few_states.0,
       few_states.1,
       few_channels.0,
@@ -94,8 +94,8 @@ layout_by_rows words some_state states some_channel channels room =
     let n : ℕ = state_count words in
     let c : ℕ = channel_count words in
     cond-false (ltb (length words) 2) (Err TooShort) _ (le-ltb (length words) 2 (omega arith))
-    ∙ (cond-false (not (within 1 256 n)) (Err States) _ (not_from_true (within 1 256 n) (within_from 1 256 n some_state states))
-    ∙ (cond-false (not (within 1 8 c)) (Err Channels) _ (not_from_true (within 1 8 c) (within_from 1 8 c some_channel channels))
+    ∙ (cond-false (not (between 1 256 n)) (Err States) _ (not_from_true (between 1 256 n) (between_from 1 256 n some_state states))
+    ∙ (cond-false (not (between 1 8 c)) (Err Channels) _ (not_from_true (between 1 8 c) (between_from 1 8 c some_channel channels))
     ∙ cond-false (ltb (length words) (words_taken n c)) (Err TooShort) _ (le-ltb (length words) (words_taken n c) room)))
 
 -- the check passes words that have the layout, and answers how many they take

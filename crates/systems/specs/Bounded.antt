@@ -2,8 +2,8 @@
 use Rattle.std.specs.Prelude.{ℕ, zero, suc, Bool, true, ◌&&◌, List, [], ◌∷◌, ◌++◌, Some, None, Option, nat_le}
 
 -- whether x is one of least to most
-abbrev pub within : ℕ → ℕ → ℕ → Bool
-within least most x = nat_le least x && nat_le x most
+abbrev pub between : ℕ → ℕ → ℕ → Bool
+between least most x = nat_le least x && nat_le x most
 
 -- whether every number below the bound passes
 abbrev pub all_below : ℕ → (ℕ → Bool) → Bool

@@ -1,7 +1,7 @@
 -- How a stored system lies in 16-bit words: n, c, and a row for each state.
 -- A row is c words of reading + 32,768, then p, q, and 256 words of next states, that of moves a and b at a * 16 + b.
 use Rattle.std.specs.Prelude.{ℕ, ◌+◌, ◌*◌, ◌<◌, ◌≤◌, Bool, cond, not, ◌&&◌, List, ◌∷◌, length, replicate, pos, ◌-ℤ◌, is_ok, Some, None, Ok, Err, Option, Result, nat_lt, slice_index}
-use Rattle.systems.specs.Bounded.{within, all_below, first_below}
+use Rattle.systems.specs.Bounded.{all_below, between, first_below}
 use Rattle.systems.specs.Meaning.{Meaning, Reading, no_question}
 use Rattle.systems.specs.declared.layout.LayoutFault.{LayoutFault}
 use Rattle.systems.specs.declared.layout.LayoutFault.TheVariants.{States, Channels, TooShort, Moves, NextState}
@@ -69,7 +69,7 @@ next_states_fit words w = all_below (controller_word words w) (move_fits words w
 -- what is wrong with the row of state w, if anything is
 abbrev pub row_fault : List ℕ → ℕ → Option LayoutFault
 row_fault words w =
-    cond (not (within 1 16 (controller_word words w) && within 1 16 (environment_word words w))) (Some Moves)
+    cond (not (between 1 16 (controller_word words w) && between 1 16 (environment_word words w))) (Some Moves)
     (cond (not (next_states_fit words w)) (Some NextState) None)
 
 -- what the check of the rows answers, by the first fault of a row
@@ -81,8 +81,8 @@ rows_answer words None = Ok (words_taken (state_count words) (channel_count word
 abbrev pub layout : List ℕ → Result ℕ LayoutFault
 layout words =
     cond (nat_lt (length words) 2) (Err TooShort)
-    (cond (not (within 1 256 (state_count words))) (Err States)
-    (cond (not (within 1 8 (channel_count words))) (Err Channels)
+    (cond (not (between 1 256 (state_count words))) (Err States)
+    (cond (not (between 1 8 (channel_count words))) (Err Channels)
     (cond (nat_lt (length words) (words_taken (state_count words) (channel_count words))) (Err TooShort)
     (rows_answer words (first_below (state_count words) (row_fault words))))))
 

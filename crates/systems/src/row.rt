@@ -1,6 +1,6 @@
 //! The row of a state in the words of a stored system.
 ghost use Rattle.std.specs.Prelude.{◌≡◌, ◌<◌, ◌≤◌, Some, None, MatchResult};
-ghost use Rattle.systems.specs.Bounded.{within};
+ghost use Rattle.systems.specs.Bounded.{between};
 ghost use Rattle.systems.specs.Layout.{RowHeld, channel_count, controller_word, environment_word, move_fits, next_fits, next_states_fit, next_word, reading_word, row_fault, row_word, row_words};
 
 use crate::layout::{CHANNELS_AT, LayoutFault, MAX_MOVES, MOVES_WORDS, STATES_AT, row_place};
@@ -15,7 +15,7 @@ pub(crate) struct Row<'a> {
 
 /// Whether a side can have so many moves.
 fn is_move_count(count: u16) -> bool
-    ensures { result ≡ within 1 16 count }
+    ensures { result ≡ between 1 16 count }
 {
     (1..=MAX_MOVES).contains(&count)
 }
