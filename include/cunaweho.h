@@ -167,7 +167,7 @@ struct cunaweho_ranks {
  * Granted: the words of the system, from `at` on, hold it; all others are as
  * they were. Refused: all words are as they were.
  *
- * Takes less than 4 KB of stack.
+ * Takes less than 4 KB of stack, as trials showed.
  */
 struct cunaweho_read cunaweho_read_system(
     const uint8_t *bytes, size_t bytes_len, size_t place,
@@ -185,7 +185,7 @@ struct cunaweho_read cunaweho_read_system(
  * Granted: the file stands at the front of the bytes, and those behind it are
  * as they were. Refused: all bytes are as they were.
  *
- * Takes less than 4 KB of stack.
+ * Takes less than 4 KB of stack, as trials showed.
  */
 struct cunaweho_written cunaweho_write_system(
     const uint16_t *words, size_t words_len,
@@ -217,7 +217,8 @@ struct cunaweho_written cunaweho_write_system(
  * Granted: the two systems lie at the front of their words; words behind them,
  * and entries behind those of the pairs, are as they were.
  *
- * Each takes about 0.5 MB of stack.
+ * Each takes up to about 0.5 MB of stack, as trials showed; below 1,024 pairs
+ * far less.
  */
 
 /*

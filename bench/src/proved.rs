@@ -149,7 +149,7 @@ unsafe extern "C" {
     ) -> RanksAnswer;
 }
 
-/// `struct layered_code`.
+/// `Code` of `crates/layered`.
 #[cfg(feature = "layered")]
 #[repr(C)]
 struct Code {

@@ -12,7 +12,7 @@ same_channels old new = old.channels == new.channels && nat_le old.channels 8
 abbrev pub alike_on_all : Meaning → Meaning → (ℕ → Reading → Reading → Bool) → ℕ → ℕ → Bool
 alike_on_all old new relation w v = all_below old.channels λ k. relation k (old.reading w k) (new.reading v k)
 
--- the old system, the new one, and the likeness that compares their readings
+-- the arena of an old system, a new one, and the likeness that compares their readings
 abbrev pub exchange : Meaning → Meaning → (ℕ → Reading → Reading → Bool) → Arena
 exchange old new relation = record {
   old_states = old.states;

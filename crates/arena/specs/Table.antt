@@ -65,7 +65,7 @@ by_move (Some a) = Some (Move a)
 abbrev pub cause_of : Arena → List ℕ → ℕ → ℕ → Option Cause
 cause_of A table w v = cond (A.alike w v) (by_move (least_refuting A (struck A table None) w v 0 (A.old_controller_moves w))) (Some Sight)
 
--- whether a pair is in order: a struck one is unlike, or refuted when only entries from 1 to below its own count; a standing one is not loose
+-- whether a pair is in order: a struck one is unlike, or refuted when only the entries from 1 to below its own are taken for struck; a standing one is not loose
 abbrev pub in_order : Arena → List ℕ → ℕ → ℕ → Bool
 in_order A table w v =
     cond (stands A table w v)

@@ -134,7 +134,7 @@ impl<A: Arena> Board<'_, A> {
         self.entry(pair) == STANDING && self.is_faulty(None, pair)
     }
 
-    /// Whether the pair is in order: a struck one is unlike, or refuted when only entries from 1 to below its own count; a standing one is not loose.
+    /// Whether the pair is in order: a struck one is unlike, or refuted when only the entries from 1 to below its own are taken for struck; a standing one is not loose.
     pub fn is_in_order(&self, pair: (u16, u16)) -> bool
         ensures { result ≡ in_order (A.Arena.view self.now.arena.now) self.now.table.now pair.0 pair.1 }
     {

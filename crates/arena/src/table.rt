@@ -19,7 +19,7 @@ pub fn place_of(columns: u16, pair: (u16, u16)) -> usize
 /// The entry of the pair in a table with a row for each old state and so many columns.
 ///
 /// A pair whose place is past the end of the table stands.
-// 0 and no `Option`: no call asks there, and 0 is what was decided for it.
+// 0 and no `Option`: no call asks there, and docs/DECISIONS.md settles what is answered.
 pub fn entry_of(table: &[u32], columns: u16, pair: (u16, u16)) -> u32
     ensures { result ≡ slice_index table.now (pair.0 * columns + pair.1) }
 {

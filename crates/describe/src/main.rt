@@ -21,7 +21,7 @@ fn print_file(rt: &HostRuntime) -> anyhow::Result<()> {
         }
         Err(error) => {
             println!(rt; "{error}")?;
-            bail!("the file is refused");
+            bail!("there is no description");
         }
     }
 }

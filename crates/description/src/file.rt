@@ -11,7 +11,7 @@ use std::fmt;
 use systems::{MAX_CHANNELS, MAX_STATES, Stored, System, row_place};
 
 /// Why no description could be made.
-// Beside `DecideError` of `docket`, and no generic error for both: the one crate below both, `systems`, knows no want of memory.
+// Beside `DecideError` of `docket`, and no generic error for both: what is refused is of another type, and contracts name the cases.
 #[derive(Clone, Copy, Drop)]
 pub enum DescribeError {
     /// The file is refused.

@@ -5,15 +5,17 @@ use Rattle.std.proofs.lemmas.List.Elements.{All-cons, All-nil}
 use Rattle.std.proofs.lemmas.List.Sums.{sum_by-cons}
 use Rattle.std.proofs.lemmas.Bool.{and_from, and_left, and_right, cases_Bool, cases_eq, cond_both, cond-false, cond-true, eq-eqb, eqb-false, eqb-true, le-ltb, lt-ltb, ne_eqb}
 use Rattle.systems.specs.Refused.{if_granted, unless}
-use Rattle.arena.proofs.Simulation.{largest, replaces_by}
+use Rattle.arena.proofs.Simulation.{replaces_by}
 use Rattle.arena.specs.Arena.{Arena, Closed}
 use Rattle.arena.specs.Pairs.{Largest, Replaces}
 use Rattle.arena.specs.Table.{faulty, loose, number_standing, pairs, standing, stands, start_stands, struck}
 use Rattle.docket.proofs.Good.{Good, good_after, good_count, good_opened, good_swept}
-use Rattle.docket.proofs.Laws.{calm_none_loose}
+use Rattle.docket.proofs.Laws.{calm_none_loose, good_tells, run_law}
 use Rattle.docket.proofs.Runs.{after_more, answers_more}
-use Rattle.docket.specs.Decide.{IsRun, Told, decision, full_budget, proposals, swept_out, with_earlier}
+use Rattle.docket.specs.Certificate.{certificate, certificate_says}
+use Rattle.docket.specs.Decide.{IsRun, Told, decision, decision_calls, full_budget, proposals, swept_out, with_earlier}
 use Rattle.docket.specs.Judge.{Judges, outcome_of}
+use Rattle.docket.specs.Law.{SettleTells, SettledRight}
 use Rattle.docket.specs.Position.{Position, marked, opened}
 use Rattle.docket.specs.Refusals.{opening_refusal, use_refusal}
 use Rattle.docket.specs.Run.{after, answers, does, granted as granted_as, says}
@@ -150,9 +152,6 @@ module _ (A : Arena) (c : Closed A) (x : Position) (good : Good A x) where
 
   pub none_made_says : (budget : ℕ) → 0 < budget → (swept A x budget).made ≡ 0 → settle_says A x ≡ Ok (Settled (number_standing A x.table))
   none_made_says budget some h = settled_says (none_made_settled budget some h)
-
-  pub none_made_largest : (budget : ℕ) → 0 < budget → (swept A x budget).made ≡ 0 → Largest A (standing A x.table)
-  none_made_largest budget some h = largest A c x.table good.ordered (none_made_tight budget some h)
 
 -- once the count is the number of pairs, a sweep makes none
 module _ (A : Arena) (budget : ℕ) (y : Swept) (full : pairs A ≤ y.position.docket.count) where
@@ -303,8 +302,14 @@ module _ (A : Arena) (c : Closed A) (q : Position) (way : UnderWay A q) where
     pub settled_behind_sweeps : settle_says A y ≡ Ok (Settled (number_standing A y.table))
     settled_behind_sweeps = none_made_says A c y swept_good.0 full_budget (omega arith) swept_good.1
 
+    settled_right_behind_sweeps : SettledRight A y (number_standing A y.table)
+    settled_right_behind_sweeps = subst (λ r. SettleTells A y r) settled_behind_sweeps (good_tells A c y swept_good.0)
+
     pub largest_behind_sweeps : Largest A (standing A y.table)
-    largest_behind_sweeps = none_made_largest A c y swept_good.0 full_budget (omega arith) swept_good.1
+    largest_behind_sweeps = settled_right_behind_sweeps.largest
+
+    pub accepted_behind_sweeps : certificate_says A y.table ≡ Ok (certificate A y.table)
+    accepted_behind_sweeps = settled_right_behind_sweeps.accepted
 
 -- A judgement whose opening is granted: behind the opening it is at p, and the sweeps lead from there to y.
 module _ (A : Arena) (c : Closed A) (x : Position) (granted : opening_refusal A (length x.table) ≡ None) (p : Position) (first : p ≡ open_does A x) where
@@ -318,7 +323,7 @@ module _ (A : Arena) (c : Closed A) (x : Position) (granted : opening_refusal A 
   judged y third o told =
       let large = largest_behind_sweeps A c p opened_under_way y third in
       let verdict : o.replaces ≡ start_stands A y.table = ap (λ z. z.replaces) told ∙ ap (λ z. start_stands A z.table) (sym third) in
-      (large, subst (λ b. Decides b (Replaces A)) (sym verdict) (replaces_by A y.table large))
+      ((large, subst (λ b. Decides b (Replaces A)) (sym verdict) (replaces_by A y.table large)), accepted_behind_sweeps A c p opened_under_way y third)
 
 -- A decision whose opening is granted: behind the opening it is at p, behind the calls at q, and the sweeps lead from there to y.
 module _ (A : Arena) (c : Closed A) (x : Position) (calls : List Call) (granted : opening_refusal A (length x.table) ≡ None) (p q : Position) (first : p ≡ open_does A x) (second : q ≡ after A p calls) where
@@ -374,6 +379,7 @@ module _ (A : Arena) (c : Closed A) (x : Position) (calls : List Call) (granted 
           ∙ ap (λ cs. after A (opened A x) (cs ++ last_calls)) as_calls
           ∙ ap (λ o. after A (if_granted o (opened A x) x) (proposals strikes ++ last_calls)) (sym granted)
           ∙ sym (ap (λ cs. after A x cs) (append_assoc (Open ∷ proposals strikes) (sweeps swept_calls.made) (Settle ∷ [])));
+      law = run_law A c x (decision_calls strikes (suc (length swept_calls.made)));
     }
 
     -- all that the decision tells
@@ -391,4 +397,5 @@ module _ (A : Arena) (c : Closed A) (x : Position) (calls : List Call) (granted 
           run = subst (λ o. IsRun A x strikes d o) (sym same) (run_told d strikes as_calls answered swept counted);
           largest = large;
           decides = subst (λ b. Decides b (Replaces A)) (sym verdict) (replaces_by A z.table large);
+          accepted = subst (λ o. certificate_says A o.table ≡ Ok (certificate A o.table)) (sym same) (accepted_behind_sweeps A c q calls_under_way y third);
         }

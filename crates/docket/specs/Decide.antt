@@ -3,6 +3,8 @@ use Rattle.std.specs.Prelude.{◌≡◌, ℕ, zero, suc, ◌+◌, cond, List, []
 use Rattle.arena.specs.Arena.{Arena}
 use Rattle.arena.specs.Pairs.{Largest, Replaces}
 use Rattle.arena.specs.Table.{number_standing, pairs, standing, start_stands}
+use Rattle.docket.specs.Certificate.{certificate, certificate_says}
+use Rattle.docket.specs.Law.{RunLaw}
 use Rattle.docket.specs.Position.{Position, opened}
 use Rattle.docket.specs.Refusals.{opening_refusal}
 use Rattle.docket.specs.Run.{after, answers}
@@ -58,6 +60,8 @@ pub record IsRun (A : Arena) (x : Position) (strikes : List Proposal) (d : Decis
   pub total : d.swept ≡ sum made
   pub answered : answers A x (decision_calls strikes (suc (length made))) ≡ decision_answers A d made
   pub ended : y ≡ after A x (decision_calls strikes (suc (length made)))
+  -- and so what holds behind each of its calls
+  pub law : RunLaw A x (decision_calls strikes (suc (length made)))
 
 -- What a decision tells that began at x and ended at y.
 pub record Told (A : Arena) (x : Position) (strikes : List Proposal) (d : Decision) (y : Position) : Type 0 where
@@ -71,6 +75,7 @@ pub record Told (A : Arena) (x : Position) (strikes : List Proposal) (d : Decisi
   -- and what that means, whatever was proposed
   pub largest : Largest A (standing A y.table)
   pub decides : Decides d.replaces (Replaces A)
+  pub accepted : certificate_says A y.table ≡ Ok (certificate A y.table)
 
 -- what holds of each outcome; where the opening is refused or memory is wanting, nothing has changed
 abbrev pub Decided : Arena → Position → List Proposal → Result Decision DecideError → Position → Type 0

@@ -1,8 +1,9 @@
 -- Judgements: decisions without proposals, which hand back no list.
-use Rattle.std.specs.Prelude.{ℕ, List, [], length, Ok, Err, Result}
+use Rattle.std.specs.Prelude.{◌≡◌, ℕ, Bool, List, [], length, Ok, Err, Result}
 use Rattle.systems.specs.Refused.{if_granted, unless}
 use Rattle.arena.specs.Arena.{Arena}
 use Rattle.arena.specs.Table.{Shows, number_standing, start_stands}
+use Rattle.docket.specs.Certificate.{certificate, certificate_says}
 use Rattle.docket.specs.Decide.{decision}
 use Rattle.docket.specs.Position.{Position}
 use Rattle.docket.specs.Refusals.{opening_refusal}
@@ -22,7 +23,11 @@ judge_says A x = unless (opening_refusal A (length x.table)) (outcome_of A (deci
 abbrev pub judge_does : Arena → Position → Position
 judge_does A x = if_granted (opening_refusal A (length x.table)) (decision A x []).position x
 
--- what an answer tells of the table: its standing pairs are the largest simulation, and the new system replaces the old or does not, as it says
+-- what a verdict tells of the table that it leaves: its standing pairs are the largest simulation, the new system replaces the old or does not, as is told, and the certificate check accepts the table
+abbrev pub Judged : Arena → List ℕ → Bool → Type 0
+Judged A table replaces = Shows A table replaces × (certificate_says A table ≡ Ok (certificate A table))
+
+-- what an answer tells of the table
 abbrev pub Judges : Arena → List ℕ → Result Outcome Refusal → Type 0
-Judges A table (Ok o) = Shows A table o.replaces
+Judges A table (Ok o) = Judged A table o.replaces
 Judges A table (Err refusal) = Unit {0}

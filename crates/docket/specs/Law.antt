@@ -32,7 +32,7 @@ pub record Sound (A : Arena) (x : Position) : Type 0 where
   -- the settle check is not refused, and tells the truth
   pub settle_tells : SettleTells A x (settle_says A x)
 
--- after any calls, from any docket and any table, if an opening among them was granted
+-- from any docket and any table, that holds after each of the calls behind a granted opening
 abbrev pub RunLaw : Arena → Position → List Call → Type 0
 RunLaw A x calls = (done left : List Call) → done ++ left ≡ calls → was_opened A x done ≡ true → Sound A (after A x done)
 

@@ -11,7 +11,7 @@ use Rattle.docket.specs.declared.call.Grant.{Grant}
 use Rattle.docket.specs.declared.call.Grant.TheVariants.{Opened, Struck, Swept, Checked}
 use Rattle.docket.specs.declared.refusal.Refusal.{Refusal}
 
--- the answer of one call as that of any
+-- the answer of a call, what it grants as a `Grant`
 abbrev pub granted : {X : Type 0} → (X → Grant) → Result X Refusal → Result Grant Refusal
 granted grant (Ok answer) = Ok (grant answer)
 granted grant (Err refusal) = Err refusal

@@ -21,11 +21,11 @@ strike_for w v (Some cause) = Some (record { pair = (w, v); cause = cause })
 abbrev pub loose_strike : Arena → List ℕ → ℕ → ℕ → Option Strike
 loose_strike A table w v = cond (stands A table w v) (strike_for w v (cause_of A table w v)) None
 
--- the first loose pair of an old state's row
+-- the strike that the first loose pair of an old state's row can get
 abbrev pub first_loose_in : Arena → List ℕ → ℕ → ℕ → Option Strike
 first_loose_in A table w columns = first_below columns λ v. loose_strike A table w v
 
--- the first loose pair by place
+-- the strike that the first loose pair by place can get
 abbrev pub first_loose : Arena → List ℕ → Option Strike
 first_loose A table = first_below A.old_states λ w. first_loose_in A table w A.new_states
 

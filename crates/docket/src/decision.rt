@@ -20,7 +20,7 @@ pub struct Decision {
 }
 
 /// Why nothing was decided.
-// Beside `DescribeError` of `description`, and no generic error for both: the one crate below both, `systems`, knows no want of memory.
+// Beside `DescribeError` of `description`, and no generic error for both: what is refused is of another type, and contracts name the cases.
 #[derive(Clone, Copy, Debug, PartialEq, Eq, Drop)]
 pub enum DecideError {
     /// The opening is refused.

@@ -174,7 +174,7 @@ fn unfit_calls(rt: &HostRuntime) -> anyhow::Result<()> {
     desk.strike("27 moves", &exact(&three, &three), by_sight(9, 9))
 }
 
-/// A strike refused for each number from 7 on, in their order, and some that are granted.
+/// Strikes that are refused with 7 to 11, and some that are granted.
 fn strikes<A: Arena>(desk: &mut Desk, arena: &A) -> anyhow::Result<()> {
     desk.strike("no such old state", arena, by_sight(3, 0))?;
     desk.strike("no such new state", arena, by_sight(0, 2))?;

@@ -1,4 +1,4 @@
-//! Decides whether a new controller may float where an old one does: standard input has the two types, a tolerance and the strikes that are proposed.
+//! Decides whether a new controller may float where an old one does: standard input has a tolerance, the two types and the strikes that are proposed.
 #![tactic(auto)]
 
 use anyhow::bail;

@@ -5,7 +5,7 @@ use Rattle.files.specs.declared.put.Writer.{Writer}
 use Rattle.files.specs.SystemWrite.{spelled}
 use Rattle.files.specs.Words.{put_at}
 
--- the numbers end at `end`; they have 16 bits, and stand in the bytes if there is room for all of them
+-- the numbers end at `end`; they have 16 bits, and stand in the bytes, which are as many as before, if there is room for all of them
 pub record Put (before : List ℕ) (place : ℕ) (numbers : List ℕ) (after : List ℕ) (end : ℕ) : Type 0 where
   pub small : AllByRecursion (λ n. n < 65536) numbers
   pub long : length after ≡ length before

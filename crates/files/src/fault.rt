@@ -31,7 +31,7 @@ pub struct ReadFault {
     /// Where the number begins.
     pub place: usize,
     /// The state whose row it is in; 0 at the numbers of states and channels.
-    // 0 and no `Option`: so it was decided, and callers rely on it
+    // 0 and no `Option`: a result that was left open, and is settled in docs/DECISIONS.md
     pub state: u16,
 }
 

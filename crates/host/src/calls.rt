@@ -2,6 +2,7 @@
 ghost use Rattle.std.specs.Prelude.{◌≡◌, ◌-◌, ◌++◌, length, drop, is_none, IfOk, if◌then◌else◌};
 ghost use Rattle.systems.specs.Refused.{if_granted, unless};
 ghost use Rattle.arena.specs.Table.{Shows};
+ghost use Rattle.docket.specs.Judge.{Judged};
 ghost use Rattle.files.specs.SystemFile.{described, file_fault, file_read};
 ghost use Rattle.files.specs.SystemWrite.{system_bytes, write_fault};
 ghost use Rattle.files.specs.Words.{put_at, system_words};
@@ -52,7 +53,7 @@ pub extern "C" fn cunaweho_decide(
     ensures table { table.new ≡ decide_does (lent old_file.now new_file.now tolerances.now.channels) (room (length old_words.old) (length new_words.old) (length table.old)) table.old }
     ensures old { old_words.new ≡ if_granted (files_fault (lent old_file.now new_file.now tolerances.now.channels) (room (length old_words.old) (length new_words.old) (length table.old))) (laid_out old_file.now old_words.old) old_words.old }
     ensures new { new_words.new ≡ if_granted (files_fault (lent old_file.now new_file.now tolerances.now.channels) (room (length old_words.old) (length new_words.old) (length table.old))) (laid_out new_file.now new_words.old) new_words.old }
-    ensures law { IfOk (decide_says (lent old_file.now new_file.now tolerances.now.channels) (room (length old_words.old) (length new_words.old) (length table.old)) table.old) (λ outcome. Shows (filed (lent old_file.now new_file.now tolerances.now.channels)) table.new outcome.replaces) }
+    ensures law { IfOk (decide_says (lent old_file.now new_file.now tolerances.now.channels) (room (length old_words.old) (length new_words.old) (length table.old)) table.old) (λ outcome. Judged (filed (lent old_file.now new_file.now tolerances.now.channels)) table.new outcome.replaces) }
 {
     let lent = FiledExchange {
         old_file,

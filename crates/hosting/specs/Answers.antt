@@ -1,5 +1,6 @@
 -- The answers that cross to C.
 use Rattle.std.specs.Prelude.{ℕ, false, Ok, Err, Result}
+use Rattle.docket.specs.Certificate.{fault_number}
 use Rattle.docket.specs.Refusals.{refusal_number}
 use Rattle.docket.specs.declared.certificate.Certificate.{Certificate as Shown}
 use Rattle.docket.specs.declared.certificate.CertificateFault.{CertificateFault}
@@ -10,6 +11,7 @@ use Rattle.files.specs.declared.fault.ReadFault.{ReadFault}
 use Rattle.files.specs.declared.system_read.SystemRead.{SystemRead}
 use Rattle.files.specs.declared.system_write.SystemWriteFault.{SystemWriteFault}
 use Rattle.files.specs.declared.system_write.SystemWriteFault.TheVariants.{States, Channels, Moves, TooFewBytes}
+use Rattle.hosting.specs.Fault.{files_fault_number}
 use Rattle.hosting.specs.declared.fault.CheckFault.{CheckFault}
 use Rattle.hosting.specs.declared.fault.CheckFault.TheVariants.{Files, Table}
 use Rattle.hosting.specs.declared.fault.FilesFault.{FilesFault}
@@ -48,7 +50,7 @@ file_refusal item fault = record { number = refusal fault.reason; item = item_nu
 
 -- the refusal of two files and what is lent with them; that of a tolerance is placed at its channel
 abbrev pub files_refusal : FilesFault → Refusal
-files_refusal (Tolerance channel) = record { number = 27; item = item_number Tolerances; state = 0; new_state = 0; place = channel }
+files_refusal (Tolerance channel) = record { number = files_fault_number (Tolerance channel); item = item_number Tolerances; state = 0; new_state = 0; place = channel }
 files_refusal (OldFile fault) = file_refusal OldItem fault
 files_refusal (NewFile fault) = file_refusal NewItem fault
 files_refusal (Exchange why) = about Together (refusal_number why)
@@ -60,8 +62,8 @@ pair_refusal number pair = record { number = number; item = item_number Pair; st
 -- the fault of a table
 abbrev pub table_refusal : CertificateFault → Refusal
 table_refusal (Refused why) = about Together (refusal_number why)
-table_refusal (Unfounded pair) = pair_refusal 13 pair
-table_refusal (Loose pair) = pair_refusal 14 pair
+table_refusal (Unfounded pair) = pair_refusal (fault_number (Unfounded pair)) pair
+table_refusal (Loose pair) = pair_refusal (fault_number (Loose pair)) pair
 
 -- the refusal of a certificate check
 abbrev pub check_refusal : CheckFault → Refusal

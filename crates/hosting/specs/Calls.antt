@@ -22,11 +22,11 @@ decided A table = decision A (position closed table) []
 
 -- what a decision answers
 abbrev pub decide_says : Lent → Room → List ℕ → Result Outcome FilesFault
-decide_says e lent table = unless (files_fault e lent) (outcome_of (filed e) (decided (filed e) table))
+decide_says e room table = unless (files_fault e room) (outcome_of (filed e) (decided (filed e) table))
 
 -- the table that it leaves
 abbrev pub decide_does : Lent → Room → List ℕ → List ℕ
-decide_does e lent table = if_granted (files_fault e lent) (decided (filed e) table).position.table table
+decide_does e room table = if_granted (files_fault e room) (decided (filed e) table).position.table table
 
 -- the fault of a table as that of a check
 abbrev pub of_table : Result Certificate CertificateFault → Result Certificate CheckFault
@@ -40,12 +40,12 @@ check_says_by None found = of_table found
 
 -- what a certificate check answers
 abbrev pub check_says : Lent → Room → List ℕ → Result Certificate CheckFault
-check_says e lent table = check_says_by (files_fault e lent) (certificate_says (filed e) table)
+check_says e room table = check_says_by (files_fault e room) (certificate_says (filed e) table)
 
 -- what a ranking answers: the highest rank
 abbrev pub rank_says : Lent → Room → List ℕ → Result ℕ FilesFault
-rank_says e lent table = unless (files_fault e lent) (highest (filed e) (ranked (filed e) table))
+rank_says e room table = unless (files_fault e room) (highest (filed e) (ranked (filed e) table))
 
 -- the table that it leaves
 abbrev pub rank_does : Lent → Room → List ℕ → List ℕ
-rank_does e lent table = if_granted (files_fault e lent) (ranked (filed e) table) table
+rank_does e room table = if_granted (files_fault e room) (ranked (filed e) table) table

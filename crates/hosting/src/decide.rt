@@ -1,7 +1,7 @@
 //! Deciding the exchange of two files.
 ghost use Rattle.std.specs.Prelude.{◌≡◌, length, IfOk};
 ghost use Rattle.systems.specs.Refused.{if_granted};
-ghost use Rattle.arena.specs.Table.{Shows};
+ghost use Rattle.docket.specs.Judge.{Judged};
 ghost use Rattle.hosting.specs.Calls.{decide_does, decide_says};
 ghost use Rattle.hosting.specs.Files.{filed, files_fault, laid_out, lent_by, room};
 
@@ -24,7 +24,7 @@ impl FiledExchange<'_> {
         ensures table { table.new ≡ decide_does (lent_by self.now) (room (length old_words.old) (length new_words.old) (length table.old)) table.old }
         ensures old { old_words.new ≡ if_granted (files_fault (lent_by self.now) (room (length old_words.old) (length new_words.old) (length table.old))) (laid_out self.now.old_file.now old_words.old) old_words.old }
         ensures new { new_words.new ≡ if_granted (files_fault (lent_by self.now) (room (length old_words.old) (length new_words.old) (length table.old))) (laid_out self.now.new_file.now new_words.old) new_words.old }
-        ensures law { IfOk result (λ outcome. Shows (filed (lent_by self.now)) table.new outcome.replaces) }
+        ensures law { IfOk result (λ outcome. Judged (filed (lent_by self.now)) table.new outcome.replaces) }
     {
         let likeness = self.take_in(old_words, new_words, table.len())?;
         let held = Held {

@@ -25,7 +25,7 @@ fn main(rt: HostRuntime) -> anyhow::Result<()> {
         }
         Err(error) => {
             println!(rt; "{error}")?;
-            bail!("the file is refused");
+            bail!("there is no description");
         }
     }
 }

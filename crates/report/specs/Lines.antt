@@ -9,7 +9,7 @@ use Rattle.docket.specs.declared.strike.Strike.{Strike}
 use Rattle.report.specs.declared.lines.Proposal.{Proposal}
 use Rattle.report.specs.declared.lines.Verdict.{Verdict}
 
--- `NAME N W V`, of a pair
+-- `NAME N W V`, of a pair; the name brings its space
 abbrev pub pair_line : List ℕ → ℕ → ℕ × ℕ → List ℕ
 pair_line name number pair =
     name ++ (decimal number ++ (codes " " ++ (decimal pair.0 ++ (codes " " ++ (decimal pair.1 ++ codes "\n")))))
@@ -30,7 +30,7 @@ proposal_line p = answer_line p.strike.pair p.answer
 abbrev pub proposal_lines : List Strike → List (Result Grant Refusal) → List ℕ
 proposal_lines strikes answers = flat_map (λ p. answer_line p.0.pair p.1) (zip strikes answers)
 
--- `NAME N` on a line of its own
+-- `NAME N` on a line of its own; the name brings its space
 abbrev pub count_line : List ℕ → ℕ → List ℕ
 count_line name n = name ++ (decimal n ++ codes "\n")
 

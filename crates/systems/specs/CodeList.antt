@@ -19,7 +19,7 @@ translated (entry ∷ entries) x = cond (same_reading entry.from x) entry.to (tr
 abbrev pub below_cut : Reading → Reading → Reading
 below_cut cut x = cond (int_le cut x) (pos 0) x
 
--- the cut comes after the entries
+-- what is shown for a reading: what the entries make of it, and then the cut
 abbrev pub shown : List CodeEntry → Reading → Reading → Reading
 shown entries cut x = below_cut cut (translated entries x)
 

@@ -1,8 +1,9 @@
 -- How a stored system lies in 16-bit words: n, c, and a row for each state.
 -- A row is c words of reading + 32,768, then p, q, and 256 words of next states, that of moves a and b at a * 16 + b.
-use Rattle.std.specs.Prelude.{ℕ, ◌+◌, ◌*◌, ◌<◌, ◌≤◌, Bool, cond, not, ◌&&◌, List, ◌∷◌, length, replicate, pos, ◌-ℤ◌, is_ok, Some, None, Ok, Err, Option, Result, nat_lt, slice_index}
+use Rattle.std.specs.Prelude.{ℕ, ◌+◌, ◌*◌, ◌<◌, ◌≤◌, Bool, cond, not, ◌&&◌, List, ◌∷◌, length, replicate, pos, ◌-ℤ◌, is_ok, Some, None, Err, Option, Result, nat_lt, slice_index}
 use Rattle.systems.specs.Bounded.{all_below, between, first_below}
 use Rattle.systems.specs.Meaning.{Meaning, Reading, no_question}
+use Rattle.systems.specs.Refused.{unless}
 use Rattle.systems.specs.declared.layout.LayoutFault.{LayoutFault}
 use Rattle.systems.specs.declared.layout.LayoutFault.TheVariants.{States, Channels, TooShort, Moves, NextState}
 
@@ -74,8 +75,7 @@ row_fault words w =
 
 -- what the check of the rows answers, by the first fault of a row
 abbrev pub rows_answer : List ℕ → Option LayoutFault → Result ℕ LayoutFault
-rows_answer words (Some fault) = Err fault
-rows_answer words None = Ok (words_taken (state_count words) (channel_count words))
+rows_answer words fault = unless fault (words_taken (state_count words) (channel_count words))
 
 -- the layout check: how many words the layout takes, or the first fault
 abbrev pub layout : List ℕ → Result ℕ LayoutFault

@@ -28,7 +28,7 @@ impl Docket {
     }
 
     /// How many strikes it has granted since it was opened.
-    // 0 of a closed docket and no `Option`: so it was decided, and callers rely on it
+    // 0 of a closed docket and no `Option`: a result that was left open, and is settled in docs/DECISIONS.md
     pub fn count(&self) -> u32
         ensures { result ≡ self.now.count }
     {
