@@ -36,6 +36,7 @@ fn numbers_are_written(rt: HostRuntime) {
         write_number(16_384, &mut bytes[0..2]),
         Err(WriteFault::TooFewBytes)
     );
+    assert_eq!(rt; WriteFault::TooFewBytes as u8, 23);
     assert_eq!(rt; bytes, [0xFF, 0xFF, 0x03, 0xEE]);
 }
 

@@ -1,5 +1,5 @@
 -- Decisions: an opening, the strikes that are proposed, sweeps until one makes none, and the verdict.
-use Rattle.std.specs.Prelude.{◌≡◌, ℕ, zero, suc, ◌+◌, cond, List, [], ◌∷◌, ◌++◌, All, map, replicate, length, sum, Some, None, Ok, Err, vec_items, Decides, Result, ◌==◌, ◌≢◌}
+use Rattle.std.specs.Prelude.{◌≡◌, ℕ, zero, suc, ◌+◌, ◌≤◌, cond, List, [], ◌∷◌, ◌++◌, All, map, replicate, length, sum, Some, None, Ok, Err, vec_items, Decides, Result, ◌==◌, ◌≢◌}
 use Rattle.arena.specs.Arena.{Arena}
 use Rattle.arena.specs.Pairs.{Largest, Replaces}
 use Rattle.arena.specs.Table.{number_standing, pairs, standing, start_stands}
@@ -77,8 +77,8 @@ pub record Told (A : Arena) (x : Position) (strikes : List Proposal) (d : Decisi
   pub decides : Decides d.replaces (Replaces A)
   pub accepted : certificate_says A y.table ≡ Ok (certificate A y.table)
 
--- what holds of each outcome; where the opening is refused or memory is wanting, nothing has changed
+-- what holds of each outcome; where the opening is refused or memory is wanting, nothing has changed, and it can be wanting only for strikes that are proposed
 abbrev pub Decided : Arena → Position → List Proposal → Result Decision DecideError → Position → Type 0
 Decided A x strikes (Ok d) y = Told A x strikes d y
 Decided A x strikes (Err (Refused refusal)) y = (opening_refusal A (length x.table) ≡ Some refusal) × (y ≡ x)
-Decided A x strikes (Err NoMemory) y = y ≡ x
+Decided A x strikes (Err NoMemory) y = (1 ≤ length strikes) × (y ≡ x)

@@ -58,6 +58,13 @@ impl<'a> SystemFile<'a> {
         self.parts.sizes.channels
     }
 
+    /// The place behind the file.
+    pub fn end(&self) -> usize
+        ensures { result ≡ (file_read self.now.bytes.now self.now.place).end }
+    {
+        self.parts.end
+    }
+
     /// Lays out the system in the words from `at` on, and tells how many it takes, and where the file ends.
     ///
     /// Where there are too few, no word changes.

@@ -1,5 +1,5 @@
 -- Two files that are taken for an exchange.
-use Rattle.std.proofs.Common.{◌≡◌, ℕ, ◌*◌, ◌<◌, ◌≤◌, Bool, true, cond, not, eqb, leb, ltb, ◌&&◌, List, length, Some, None, Ok, Err, Option, Result, refl, sym, ap, ◌∙◌, arith}
+use Rattle.std.proofs.Common.{◌≡◌, ℕ, ◌*◌, ◌<◌, ◌≤◌, Bool, true, cond, not, eqb, leb, ltb, ◌&&◌, List, Some, None, Ok, Err, Option, Result, refl, ◌∙◌, arith}
 use Rattle.std.proofs.lemmas.Bool.{le-ltb}
 use Rattle.std.proofs.lemmas.Bool.Decides.{nat_tests}
 use Rattle.systems.specs.Meaning.{Meaning, Reading}
@@ -8,25 +8,19 @@ use Rattle.systems.specs.Layout.{stored, stored_words}
 use Rattle.systems.proofs.Bounded.{all_below_from, or_else_none}
 use Rattle.likeness.specs.Within.{first_too_wide, within}
 use Rattle.std.specs.Prelude.{IfOk, option_map}
-use Rattle.systems.specs.Refused.{if_granted, unless}
 use Rattle.arena.specs.Arena.{Arena}
 use Rattle.arena.specs.Exchange.{exchange}
 use Rattle.arena.specs.Table.{Shows}
-use Rattle.docket.specs.Certificate.{Certifies, certificate_says}
-use Rattle.docket.specs.Judge.{judge_does, judge_says, outcome_of}
-use Rattle.docket.specs.Position.{closed, position}
+use Rattle.docket.specs.Certificate.{Certifies}
 use Rattle.docket.specs.Refusals.{few_moves, opening_refusal}
 use Rattle.docket.specs.declared.certificate.Certificate.{Certificate}
 use Rattle.docket.specs.declared.certificate.CertificateFault.{CertificateFault}
 use Rattle.docket.specs.declared.refusal.Refusal.{Refusal}
 use Rattle.docket.specs.declared.refusal.Refusal.TheVariants.{NotComparable, TableTooShort}
-use Rattle.ranking.specs.Rank.{highest, ranked}
-use Rattle.ranking.specs.Rank.{rank_does as table_rank_does, rank_says as table_rank_says}
 use Rattle.files.specs.Few.{Few}
 use Rattle.files.specs.SystemFile.{described, file_fault}
 use Rattle.files.specs.Words.{Holds}
 use Rattle.files.proofs.Held.{stored_is}
-use Rattle.hosting.specs.Calls.{check_says, check_says_by, decide_does, decide_says, decided, of_table, rank_does, rank_says}
 use Rattle.hosting.specs.Files.{Lent, Room, filed, files_fault}
 use Rattle.hosting.specs.declared.fault.FilesFault.TheVariants.{Tolerance, OldFile, NewFile, Exchange}
 

@@ -116,17 +116,14 @@ system_fault input place = option_map of_system (file_fault input place system_r
 abbrev pub list_fault : List ℕ → ℕ → Option InputFault
 list_fault input place = option_map of_list (listed input place).fault
 
--- the first fault that is found before memory is asked for
-abbrev pub early_fault : List ℕ → Option InputFault
-early_fault input = or_else (length_fault input) (tolerance_fault input)
-
 -- the first fault of an input
 abbrev pub input_fault : List ℕ → Option InputFault
 input_fault input =
-    or_else (early_fault input)
+    or_else (length_fault input)
+    (or_else (tolerance_fault input)
     (or_else (system_fault input (old_place input))
     (or_else (system_fault input (new_place input))
-    (list_fault input (list_place input))))
+    (list_fault input (list_place input)))))
 
 -- What was read of an input.
 pub record IsRead (input : List ℕ) (read : Input) : Type 0 where

@@ -1,7 +1,7 @@
 //! From the bytes of an input to what is printed for it.
 ghost use Rattle.std.specs.Prelude.{◌≡◌, List, ℕ, IfOk};
 ghost use Rattle.report.specs.Answer.{Unless, WantsMemory};
-ghost use Rattle.report.specs.Input.{IsRead, early_fault};
+ghost use Rattle.report.specs.Input.{IsRead, input_fault};
 ghost use Rattle.report.specs.Output.{IsPrinted, IsVerdict, Tells, begun, fault_of, opening_fault, undecided};
 
 use crate::error::ReportError;
@@ -59,7 +59,7 @@ fn decide(heap: Global, input: &Input, table: &mut [u32]) -> Result<Decision, Re
 pub fn report(heap: Global, input: &[u8]) -> Result<Verdict, ReportError>
     ensures output { IsPrinted input.now result }
     ensures verdict { Unless (fault_of input.now) (IsVerdict input.now) result }
-    ensures memory { WantsMemory (early_fault input.now) result }
+    ensures memory { WantsMemory (input_fault input.now) result }
 {
     let read = read_input(heap, input)?;
     let mut table = new_table(heap)?;

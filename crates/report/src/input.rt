@@ -5,14 +5,14 @@ ghost use Rattle.files.specs.Sequence.{number_at};
 ghost use Rattle.files.specs.SystemFile.{described, file_read};
 ghost use Rattle.files.specs.Words.{Holds};
 ghost use Rattle.report.specs.Answer.{Unless, UnlessFault, WantsMemory};
-ghost use Rattle.report.specs.Input.{IsRead, early_fault, input_fault, length_fault, old_place, system_fault, system_room, tolerance, tolerance_fault};
+ghost use Rattle.report.specs.Input.{IsRead, input_fault, length_fault, old_place, system_fault, system_room, tolerance, tolerance_fault};
 
 use crate::error::ReportError;
 use crate::fault::{InputFault, InputReason};
-use crate::list::read_strikes;
+use crate::list::{read_strikes, test_list};
 use codec::{NumberFault, read_number};
 use docket::Strike;
-use files::read_system;
+use files::{SystemFile, read_system};
 use likeness::Within;
 use std::alloc::{AllocError, Global};
 
@@ -79,6 +79,25 @@ fn read_tolerance(input: &[u8]) -> Result<(Within, usize), InputFault>
     }
 }
 
+/// Tests the system file at the place, and answers the place behind it.
+fn test_file(input: &[u8], place: usize) -> Result<usize, InputFault>
+    ensures { UnlessFault (system_fault input.now place) (λ behind. behind ≡ (file_read input.now place).end) result }
+{
+    let file = SystemFile::test(input, place, SYSTEM_ROOM)?;
+    Ok(file.end())
+}
+
+/// Tests the whole input, item by item, and finds the first of its faults.
+fn test_input(input: &[u8]) -> Result<(), InputFault>
+    ensures { result_err result ≡ input_fault input.now }
+{
+    check_length(input)?;
+    let (_, old_place) = read_tolerance(input)?;
+    let new_place = test_file(input, old_place)?;
+    let list_place = test_file(input, new_place)?;
+    test_list(input, list_place)
+}
+
 /// Memory for the words of a system. What they hold at first does not matter.
 // By itself, so that no proof about reading has that many zeros in reach.
 fn memory_for_system(heap: Global) -> Result<Vec<u16>, AllocError>
@@ -105,12 +124,13 @@ fn read_words(heap: Global, input: &[u8], place: usize) -> Result<(Vec<u16>, usi
     Ok((words, behind))
 }
 
-/// Reads a whole input, item by item, or finds the first of its faults.
+/// Reads a whole input, or finds the first of its faults.
 pub fn read_input(heap: Global, input: &[u8]) -> Result<Input, ReportError>
     ensures read { Unless (input_fault input.now) (IsRead input.now) result }
-    ensures memory { WantsMemory (early_fault input.now) result }
+    ensures memory { WantsMemory (input_fault input.now) result }
 {
-    check_length(input)?;
+    // before memory is asked for, so that a fault is told whether there is memory or not
+    test_input(input)?;
     let (likeness, old_place) = read_tolerance(input)?;
     let (old_words, new_place) = read_words(heap, input, old_place)?;
     let (new_words, list_place) = read_words(heap, input, new_place)?;

@@ -1,9 +1,11 @@
 //! The strikes that a list proposes.
 ghost use Rattle.std.specs.Prelude.{◌≡◌, OnOk};
+ghost use Rattle.std.specs.Result.{result_err};
 ghost use Rattle.report.specs.Answer.{Unless};
 ghost use Rattle.report.specs.Input.{kept, list_fault, proposed, strike_of};
 
 use crate::error::ReportError;
+use crate::fault::InputFault;
 use arena::Cause;
 use docket::Strike;
 use files::{Record, read_record};
@@ -32,6 +34,17 @@ fn keep(strikes: &mut Vec<Strike>, strike: Option<Strike>) -> Result<(), AllocEr
 {
     if let Some(strike) = strike {
         strikes.push(strike)?;
+    }
+    Ok(())
+}
+
+/// Tests the list that begins at the place, to its end.
+pub(crate) fn test_list(input: &[u8], place: usize) -> Result<(), InputFault>
+    ensures { result_err result ≡ list_fault input.now place }
+{
+    let mut next = place;
+    while let Some((_item, behind)) = read_record(input, next)? {
+        next = behind;
     }
     Ok(())
 }

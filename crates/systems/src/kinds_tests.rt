@@ -17,6 +17,12 @@ fn doubled<S: System + Copy>(system: S) -> Joint<S, S> {
 }
 
 #[test]
+fn moves_of_a_buffer_have_their_numbers(rt: HostRuntime) {
+    assert_eq!(rt; [Buffer::WAIT, Buffer::TAKE, Buffer::SEND], [0, 1, 2]);
+    assert_eq!(rt; [Buffer::RADIO_UP, Buffer::RADIO_DOWN], [0, 1]);
+}
+
+#[test]
 fn steps_both_halves(rt: HostRuntime) {
     let joint = doubled(Buffer::new(1));
     assert_eq!(rt; joint.states(), 4);

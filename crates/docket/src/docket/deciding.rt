@@ -1,5 +1,5 @@
 //! Deciding an exchange.
-ghost use Rattle.std.specs.Prelude.{◌≡◌, ◌+◌, ◌≤◌, List, [], length, IfOk, vec_len, vec_capacity};
+ghost use Rattle.std.specs.Prelude.{◌≡◌, ◌+◌, ◌≤◌, List, [], length, IfOk, OnErr, vec_len, vec_capacity};
 ghost use Rattle.arena.specs.Table.{pairs, start_stands};
 ghost use Rattle.docket.specs.Decide.{Decided, full_budget, proposals, swept_out};
 ghost use Rattle.docket.specs.Judge.{Judges, judge_does, judge_says, outcome_of};
@@ -23,8 +23,12 @@ const FULL_BUDGET: u32 = 65_535;
 
 /// The strikes that are proposed, as calls.
 fn as_calls(heap: Global, strikes: &[Strike]) -> Result<Vec<Call>, AllocError>
-    ensures { IfOk result (λ calls. calls.items ≡ proposals strikes.now) }
+    ensures calls { IfOk result (λ calls. calls.items ≡ proposals strikes.now) }
+    ensures wanting { OnErr result (1 ≤ length strikes.now) }
 {
+    if strikes.is_empty() {
+        return Ok(Vec::new(heap));
+    }
     strikes.iter().copied().map(Call::Strike).collect(heap)
 }
 
@@ -157,7 +161,7 @@ impl Docket {
 
     /// Decides whether the new system replaces the old: opens the docket, makes the strikes that are proposed, each granted or refused, sweeps until a sweep makes no strike, and settles.
     ///
-    /// The verdict is whether the pair of the start states is in the largest simulation, whatever was proposed. Where the opening is refused or memory is wanting, nothing has changed.
+    /// The verdict is whether the pair of the start states is in the largest simulation, whatever was proposed. Where the opening is refused or memory is wanting, nothing has changed; memory can be wanting only for strikes that are proposed.
     pub fn decide<A: Arena>(
         &mut self,
         heap: Global,
@@ -168,7 +172,8 @@ impl Docket {
         ensures { Decided (A.Arena.view arena.now) (position self.old table.old) strikes.now result (position self.new table.new) }
     {
         let calls = as_calls(heap, strikes)?;
-        let answers = Vec::with_capacity(heap, calls.len())?;
+        let mut answers = Vec::new(heap);
+        answers.reserve(calls.len())?;
         self.decide_in(arena, table, &calls, answers)
     }
 }
