@@ -25,6 +25,10 @@
  * answer is 0 but for those of the refusal that are told of. Where `number` is
  * 0 the call is granted and the other fields of the refusal are 0 as well.
  *
+ * How much to lend. The first two numbers of a system file are its states and
+ * its channels; CUNAWEHO_MAX_WORDS words and CUNAWEHO_MAX_ENTRIES entries are
+ * enough for any.
+ *
  * C99, and C++ from C++11 on.
  */
 #ifndef CUNAWEHO_H

@@ -1,6 +1,6 @@
 //! What an input of an exchange holds, as text for a person.
 ghost use Rattle.std.specs.Prelude.{◌≡◌, Some, string_bytes};
-ghost use Rattle.report.specs.Answer.{Unless};
+ghost use Rattle.report.specs.Answer.{Unless, WantsMemory};
 ghost use Rattle.report.specs.Input.{input_fault};
 ghost use Rattle.description.specs.Input.{byte_text, input_text, is_plain, parts_text, readable, record_line, records_text};
 
@@ -124,7 +124,8 @@ impl<S: System, T: System> fmt::Display for Parts<'_, S, T> {
 /// What a whole input holds, as text: the tolerance, the two systems, and the list record by record; or the first fault of the input.
 #[tactic(auto, using(systems::proofs::LaidOut::stored_words_kept))]
 pub fn describe_input(heap: Global, input: &[u8]) -> Result<String, ReportError>
-    ensures { Unless (input_fault input.now) (λ text. string_bytes text ≡ input_text input.now) result }
+    ensures text { Unless (input_fault input.now) (λ text. string_bytes text ≡ input_text input.now) result }
+    ensures memory { WantsMemory (input_fault input.now) result }
 {
     let read = read_input(heap, input)?;
     let parts = Parts {
