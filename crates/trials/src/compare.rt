@@ -11,11 +11,11 @@ use systems::System;
 
 /// What was compared so far.
 #[derive(Clone, Copy, Default)]
-pub struct Tally {
-    pub compared: u32,
-    pub agreed: u32,
-    pub replaced: u32,
-    pub damaged: u32,
+pub(crate) struct Tally {
+    pub(crate) compared: u32,
+    pub(crate) agreed: u32,
+    pub(crate) replaced: u32,
+    pub(crate) damaged: u32,
 }
 
 impl Tally {
@@ -138,15 +138,15 @@ impl<'a, S: System, T: System, L: Likeness> Case<'a, S, T, L> {
 
 /// A row of trials: the generator that they draw from, and what they compared so far.
 #[derive(Drop)]
-pub struct Trials {
+pub(crate) struct Trials {
     heap: Global,
     generator: Generator,
-    pub tally: Tally,
+    pub(crate) tally: Tally,
 }
 
 impl Trials {
     /// No trial yet, and a generator that starts from the seed.
-    pub fn new(heap: Global, seed: u32) -> Trials {
+    pub(crate) fn new(heap: Global, seed: u32) -> Trials {
         Trials {
             heap,
             generator: Generator::new(seed),
@@ -155,12 +155,16 @@ impl Trials {
     }
 
     /// The words of a stored system of the shape.
-    pub fn draw(&mut self, shape: Shape) -> Result<Vec<u16>, AllocError> {
+    pub(crate) fn draw(&mut self, shape: Shape) -> Result<Vec<u16>, AllocError> {
         self.generator.draw_system(self.heap, shape)
     }
 
     /// The words of a near copy of a stored system of the shape: at most one next state is another.
-    pub fn near_copy(&mut self, words: &[u16], shape: Shape) -> Result<Vec<u16>, AllocError> {
+    pub(crate) fn near_copy(
+        &mut self,
+        words: &[u16],
+        shape: Shape,
+    ) -> Result<Vec<u16>, AllocError> {
         self.generator.draw_near_copy(self.heap, words, shape)
     }
 
@@ -200,7 +204,7 @@ impl Trials {
     }
 
     /// Compares everything for one exchange.
-    pub fn compare<S: System, T: System, L: Likeness>(
+    pub(crate) fn compare<S: System, T: System, L: Likeness>(
         &mut self,
         old: &S,
         new: &T,

@@ -4,21 +4,21 @@ use systems::{MAX_MOVES, READING_BIAS, row_place};
 
 /// What a drawn system looks like.
 #[derive(Clone, Copy)]
-pub struct Shape {
-    pub states: u16,
-    pub channels: u16,
+pub(crate) struct Shape {
+    pub(crate) states: u16,
+    pub(crate) channels: u16,
     /// At most so many moves of the controller at a state.
-    pub controller: u16,
+    pub(crate) controller: u16,
     /// At most so many moves of the environment at a state.
-    pub environment: u16,
+    pub(crate) environment: u16,
     /// So many different readings, from the first on.
-    pub readings: u16,
-    pub first: u16,
+    pub(crate) readings: u16,
+    pub(crate) first: u16,
 }
 
 /// A generator of numbers that look random: the same numbers in every run.
 #[derive(Drop)]
-pub struct Generator {
+pub(crate) struct Generator {
     last: u32,
 }
 
@@ -29,12 +29,12 @@ impl Generator {
     const INCREMENT: u32 = 1_013_904_223;
 
     /// A generator that starts from the seed.
-    pub fn new(seed: u32) -> Generator {
+    pub(crate) fn new(seed: u32) -> Generator {
         Generator { last: seed }
     }
 
     /// The next number below the bound; 0 where there is none.
-    pub fn below(&mut self, bound: u16) -> u16 {
+    pub(crate) fn below(&mut self, bound: u16) -> u16 {
         self.last = self
             .last
             .wrapping_mul(Generator::FACTOR)
@@ -82,7 +82,11 @@ impl Generator {
     }
 
     /// The words of a stored system of the shape, drawn.
-    pub fn draw_system(&mut self, heap: Global, shape: Shape) -> Result<Vec<u16>, AllocError> {
+    pub(crate) fn draw_system(
+        &mut self,
+        heap: Global,
+        shape: Shape,
+    ) -> Result<Vec<u16>, AllocError> {
         let mut words = vec![in heap; shape.states, shape.channels]?;
         for _ in 0..shape.states {
             self.draw_row(&mut words, shape)?;
@@ -91,7 +95,7 @@ impl Generator {
     }
 
     /// The words of a near copy of the system: one next state is drawn anew, in half of the cases.
-    pub fn draw_near_copy(
+    pub(crate) fn draw_near_copy(
         &mut self,
         heap: Global,
         words: &[u16],

@@ -82,7 +82,7 @@ fn every_pair(heap: Global, rows: u16, columns: u16) -> Result<BTreeSet<(u16, u1
 }
 
 /// The pairs of the largest simulation.
-pub fn solve<S: System, T: System, L: Likeness>(
+pub(crate) fn solve<S: System, T: System, L: Likeness>(
     heap: Global,
     old: &S,
     new: &T,
