@@ -15,7 +15,7 @@ TABLE_ROOM = 4096
 
 class Fault(Exception):
     def __init__(self, number, place):
-        self.number, self.place = number, place
+        self.number, self.place, self.state = number, place, 0
 
 
 # What is printed for an input
@@ -35,7 +35,7 @@ def read_number(data, place):
     raise Fault(16, place)
 
 
-def read_system(data, place):
+def read_system(data, place, room=SYSTEM_ROOM):
     """The readings, move counts and next states, state by state, and the place behind the file."""
     n, after = read_number(data, place)
     if not 1 <= n <= 256:
@@ -44,35 +44,45 @@ def read_system(data, place):
     c, after = read_number(data, place)
     if not 1 <= c <= 8:
         raise Fault(19, place)
-    if 2 + n * (c + 258) > SYSTEM_ROOM:
+    if 2 + n * (c + 258) > room:
         raise Fault(20, place)
     place = after
     states = []
-    for _ in range(n):
-        readings = []
-        for _ in range(c):
-            filed, place = read_number(data, place)
-            readings.append(filed // 2 if filed % 2 == 0 else -(filed + 1) // 2)
-        moves = []
-        for _ in range(2):
-            count, after = read_number(data, place)
-            if not 1 <= count <= 16:
-                raise Fault(21, place)
-            place = after
-            moves.append(count)
-        p, q = moves
-        steps = []
-        for _ in range(p):
-            row = []
-            for _ in range(q):
-                target, after = read_number(data, place)
-                if target >= n:
-                    raise Fault(22, place)
-                place = after
-                row.append(target)
-            steps.append(row)
-        states.append((readings, p, q, steps))
+    for state in range(n):
+        try:
+            row, place = read_row(data, place, n, c)
+        except Fault as fault:
+            fault.state = state
+            raise
+        states.append(row)
     return (c, states), place
+
+
+def read_row(data, place, n, c):
+    """The readings, move counts and next states of a state, and the place behind them."""
+    readings = []
+    for _ in range(c):
+        filed, place = read_number(data, place)
+        readings.append(filed // 2 if filed % 2 == 0 else -(filed + 1) // 2)
+    moves = []
+    for _ in range(2):
+        count, after = read_number(data, place)
+        if not 1 <= count <= 16:
+            raise Fault(21, place)
+        place = after
+        moves.append(count)
+    p, q = moves
+    steps = []
+    for _ in range(p):
+        row = []
+        for _ in range(q):
+            target, after = read_number(data, place)
+            if target >= n:
+                raise Fault(22, place)
+            place = after
+            row.append(target)
+        steps.append(row)
+    return (readings, p, q, steps), place
 
 
 def read_list(data, place):

@@ -9,10 +9,13 @@ use crate::implementation::{
     Read, Refusal,
 };
 use crate::naive::{self, Game, Relation};
+use crate::progress;
 use counts::Counts;
 
 const SEED: u64 = 20;
 const EXCHANGES: usize = 10_000;
+/// Exchanges under a code list that is full, or has too many entries.
+const CODE_LISTS: usize = 1_000;
 const FILES: usize = 20_000;
 /// Exchanges of two files that are damaged at every byte and in other ways.
 const DAMAGED_EXCHANGES: usize = 1_000;
@@ -34,22 +37,23 @@ const UNTOUCHED_BEHIND: usize = 3;
 /// The refusal of a write for which there are too few bytes.
 const NO_ROOM: Refusal = 23;
 
-fn progress(name: &str, what: &str, done: usize, of: usize) {
+fn show_progress(name: &str, what: &str, done: usize, of: usize) {
     if done.is_multiple_of(PROGRESS_EVERY) || done == of {
-        eprint!("\r{name}, {what}: {done} of {of}  ");
-        if done == of {
-            eprintln!();
-        }
+        progress::show(format_args!("{name}, {what}: {done} of {of}  "));
+    }
+    if done == of {
+        progress::end();
     }
 }
 
 /// A comparison that is made many times, on something drawn anew each time.
 type Comparison = fn(&dyn Implementation, &mut Dice, &mut Counts);
 
-const COMPARISONS: [(&str, usize, Comparison); 5] = [
+const COMPARISONS: [(&str, usize, Comparison); 6] = [
     ("files", FILES, compare_file),
     ("stored systems", STORED_SYSTEMS, compare_stored),
     ("exchanges", EXCHANGES, compare_exchange),
+    ("full code lists", CODE_LISTS, compare_codes),
     (
         "damaged exchanges",
         DAMAGED_EXCHANGES,
@@ -73,7 +77,7 @@ pub fn compare(implementation: &dyn Implementation) -> bool {
                 );
                 break;
             }
-            progress(implementation.name(), what, done, times);
+            show_progress(implementation.name(), what, done, times);
         }
     }
     counts.print(implementation.name());
@@ -238,6 +242,18 @@ fn words_wanted(layer: &Layer) -> usize {
     }
 }
 
+/// The refusal, as the counts name it.
+fn name_of(failure: &Failure) -> String {
+    match failure {
+        Failure::Codes(refusal) => format!("codes refused with {refusal}"),
+        Failure::Tolerance(refusal, _) => format!("tolerance refused with {refusal}"),
+        Failure::OldFile(fault) => format!("old file refused with {}", fault.refusal),
+        Failure::NewFile(fault) => format!("new file refused with {}", fault.refusal),
+        Failure::Refused(refusal) => format!("exchange refused with  {refusal}"),
+        Failure::OutOfOrder(refusal, _) => format!("pair out of order, {refusal}"),
+    }
+}
+
 /// An exchange with the memory that it wants, under comparison.
 struct Trial<'a> {
     implementation: &'a dyn Implementation,
@@ -273,15 +289,7 @@ fn compare_exchange(implementation: &dyn Implementation, dice: &mut Dice, counts
         counts.pass_over(sort_of(exchange));
         return;
     }
-    let game = Game::new(exchange);
-    let mut trial = Trial {
-        implementation,
-        exchange,
-        old_words: vec![0; words_wanted(&exchange.old)],
-        new_words: vec![0; words_wanted(&exchange.new)],
-        table: Vec::new(),
-        game,
-    };
+    let mut trial = Trial::new(implementation, exchange);
     if implementation.offers(Extra::Runs) {
         trial.compare_run(dice, counts);
     } else {
@@ -289,23 +297,62 @@ fn compare_exchange(implementation: &dyn Implementation, dice: &mut Dice, counts
     }
     match trial.game.refused() {
         Some(refusal) => {
-            let agrees = trial.compare_refused(refusal, trial.game.pairs(), counts);
+            let failure = Failure::Refused(refusal);
+            let agrees = trial.compare_refused(failure, trial.game.pairs(), counts);
             counts.note(sort_of(exchange), agrees, String::new);
         }
-        None => {
-            trial.compare_refused(4, trial.game.pairs() - 1, counts);
-            let largest = trial.game.largest();
-            trial.compare_decision(&largest, dice, counts);
-            trial.compare_certificate("certificates of the docket", &largest, counts);
-            trial.compare_damaged(&largest, dice, counts);
-            trial.compare_rank(counts);
-            trial.compare_certificate("certificates of ranks", &largest, counts);
-            trial.compare_damaged(&largest, dice, counts);
+        None => trial.compare_granted(dice, counts),
+    }
+}
+
+/// Compares on a code list that is full, or has too many entries.
+fn compare_codes(implementation: &dyn Implementation, dice: &mut Dice, counts: &mut Counts) {
+    let exchange = &exchange::of_codes(dice);
+    if !implementation.offers_exchange(exchange) {
+        counts.pass_over(sort_of(exchange));
+        return;
+    }
+    let mut trial = Trial::new(implementation, exchange);
+    match (naive::codes_fault(exchange), trial.game.refused()) {
+        (Some(refusal), _) => {
+            // The table may be too short as well.
+            let length = trial.game.pairs() - dice.below(2);
+            trial.compare_refused(Failure::Codes(refusal), length, counts);
+        }
+        (None, Some(refusal)) => {
+            trial.compare_refused(Failure::Refused(refusal), trial.game.pairs(), counts);
+        }
+        (None, None) => trial.compare_granted(dice, counts),
+    }
+}
+
+impl<'a> Trial<'a> {
+    fn new(implementation: &'a dyn Implementation, exchange: &'a Exchange) -> Self {
+        Trial {
+            implementation,
+            exchange,
+            game: Game::new(exchange),
+            old_words: vec![0; words_wanted(&exchange.old)],
+            new_words: vec![0; words_wanted(&exchange.new)],
+            table: Vec::new(),
         }
     }
 }
 
 impl Trial<'_> {
+    /// Compares every call on an exchange that is granted, and the refusal for
+    /// want of an entry.
+    fn compare_granted(&mut self, dice: &mut Dice, counts: &mut Counts) {
+        self.compare_refused(Failure::Refused(4), self.game.pairs() - 1, counts);
+        let largest = self.game.largest();
+        self.compare_decision(&largest, dice, counts);
+        self.compare_certificate("certificates of the docket", &largest, counts);
+        self.compare_damaged(&largest, dice, counts);
+        self.compare_rank(counts);
+        self.compare_certificate("certificates of ranks", &largest, counts);
+        self.compare_damaged(&largest, dice, counts);
+    }
+
     fn memory(&mut self) -> Memory<'_> {
         Memory {
             old_words: &mut self.old_words,
@@ -355,7 +402,7 @@ impl Trial<'_> {
 
     /// Compares calls that are all refused, on a table of the given length;
     /// tells whether they agreed.
-    fn compare_refused(&mut self, refusal: Refusal, length: usize, counts: &mut Counts) -> bool {
+    fn compare_refused(&mut self, failure: Failure, length: usize, counts: &mut Counts) -> bool {
         let (implementation, exchange) = (self.implementation, self.exchange);
         self.table = vec![UNTOUCHED_ENTRY; length];
         let mut memory = self.memory();
@@ -364,10 +411,9 @@ impl Trial<'_> {
         let ranked = implementation.rank(exchange, &mut memory);
         let untouched = self.table.iter().all(|&entry| entry == UNTOUCHED_ENTRY);
 
-        let failure = Failure::Refused(refusal);
         let agrees = decided == Err(failure) && checked == Err(failure) && ranked == Err(failure);
         let tell = || format!("{exchange:?}: {decided:?}, {checked:?}, {ranked:?}");
-        counts.note(format!("exchanges refused with {refusal:>2}"), agrees, tell);
+        counts.note(name_of(&failure), agrees, tell);
         counts.note("tables of refused exchanges", untouched, tell);
         agrees && untouched
     }

@@ -21,7 +21,8 @@ impl Layer {
     }
 }
 
-/// A code list on a channel: entries (from, to), at most eight, and a cut.
+/// A code list on a channel: entries (from, to), and a cut. Calls refuse more
+/// than eight entries.
 #[derive(Clone, Debug, PartialEq, Eq)]
 pub struct Codes {
     pub channel: u8,
@@ -133,6 +134,8 @@ pub struct Accepted {
 /// Why a call on an exchange gives no result.
 #[derive(Clone, Copy, Debug, PartialEq, Eq)]
 pub enum Failure {
+    /// A code list has no room for its entries.
+    Codes(Refusal),
     /// The first channel whose tolerance is refused.
     Tolerance(Refusal, u8),
     OldFile(ReadFault),

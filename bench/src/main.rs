@@ -11,6 +11,7 @@ mod draw;
 mod implementation;
 mod naive;
 mod plain;
+mod progress;
 #[cfg(feature = "proved")]
 mod proved;
 mod timing;

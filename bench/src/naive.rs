@@ -12,6 +12,7 @@ use crate::implementation::{
 const MOST_STATES: usize = 256;
 const MOST_CHANNELS: usize = 8;
 const MOST_MOVES: usize = 16;
+const MOST_CODES: usize = 8;
 const NEXT_WORDS: usize = MOST_MOVES * MOST_MOVES;
 const MOST_TOLERANCE: u16 = 1_000;
 /// What is added to a reading where it is stored.
@@ -262,6 +263,21 @@ fn coded(below: &Draft, codes: &Codes) -> Draft {
         }
     }
     draft
+}
+
+/// The refusal of a code list that has no room for its entries.
+pub fn codes_fault(exchange: &Exchange) -> Option<Refusal> {
+    fn has_too_many_codes(layer: &Layer) -> bool {
+        match layer {
+            Layer::File(_) | Layer::Buffer(_) => false,
+            Layer::Joint(first, second) => has_too_many_codes(first) || has_too_many_codes(second),
+            Layer::Coded(below, codes) => {
+                codes.entries.len() > MOST_CODES || has_too_many_codes(below)
+            }
+        }
+    }
+    let sides = [&exchange.old, &exchange.new];
+    sides.into_iter().any(has_too_many_codes).then_some(26)
 }
 
 fn has_too_many_moves(state: &DraftState) -> bool {

@@ -10,7 +10,8 @@ use crate::implementation::{
     Memory, Pair, Proposal, Read, ReadFault, Refusal,
 };
 
-/// Values of `enum cunaweho_item`.
+/// Values of `enum cunaweho_item`, and the one that `crates/layered` has beside
+/// them.
 mod item {
     pub const NOTHING: u8 = 0;
     pub const TOLERANCES: u8 = 1;
@@ -20,6 +21,7 @@ mod item {
     pub const PAIR: u8 = 5;
     pub const FILE: u8 = 6;
     pub const SYSTEM: u8 = 7;
+    pub const CODES: u8 = 8;
 }
 
 /// The number that stands in place of a refusal's where a call is granted.
@@ -467,6 +469,7 @@ impl Outcome {
             item::NEW_FILE => Failure::NewFile(self.in_file(item::NEW_FILE)),
             item::EXCHANGE => Failure::Refused(self.whole(item::EXCHANGE)),
             item::PAIR => self.of_pair(),
+            item::CODES => Failure::Codes(self.whole(item::CODES)),
             _ => panic!("{self:?} has no item of an exchange"),
         }
     }

@@ -6,6 +6,7 @@ use std::time::{Duration, Instant};
 
 use crate::draw::{Dice, Draft, Shape, chain, random};
 use crate::implementation::{Codes, Exchange, Implementation, Layer, Likeness, Memory};
+use crate::progress;
 
 const SEED: u64 = 180;
 
@@ -225,15 +226,17 @@ impl Timing<'_> {
             .collect();
 
         // A call of each tells what it answers, and how many rounds fit.
-        let progress = |done: String| eprint!("\rline {number:>2}, {name:<45} {done:>18} ");
-        progress(String::new());
+        let show_progress = |done: String| {
+            progress::show(format_args!("line {number:>2}, {name:<45} {done:>18} "));
+        };
+        show_progress(String::new());
         let start = Instant::now();
         let answers: Vec<T> = offering.iter_mut().map(|(_, desk)| call(desk)).collect();
         let rounds = rounds_that_fit(start.elapsed());
 
         let mut times = vec![Vec::new(); offering.len()];
         for round in 0..rounds {
-            progress(format!("{round} of {rounds} rounds"));
+            show_progress(format!("{round} of {rounds} rounds"));
             time_round(&mut offering, &mut times, round, &call);
         }
 
@@ -394,6 +397,6 @@ pub fn time(implementations: &[&dyn Implementation], prefix: &str) -> Vec<Line> 
             timing.time_exchange(name, &exchange);
         }
     }
-    eprintln!();
+    progress::end();
     timing.lines
 }

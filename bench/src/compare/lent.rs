@@ -2,7 +2,7 @@
 //! granted, and with whatever can be wrong with files, memory and tolerances.
 
 use super::counts::Counts;
-use super::{UNTOUCHED_BEHIND, UNTOUCHED_WORD};
+use super::{UNTOUCHED_BEHIND, UNTOUCHED_WORD, name_of};
 use crate::draw::{Dice, exchange};
 use crate::implementation::{Accepted, Exchange, Failure, Implementation, Layer, Likeness, Memory};
 use crate::naive::{self, Game, Rooms};
@@ -83,16 +83,6 @@ impl Case {
                 .map(|_| dice.between(0, most_entry) as u32)
                 .collect(),
         }
-    }
-}
-
-fn name_of(failure: &Failure) -> String {
-    match failure {
-        Failure::Tolerance(refusal, _) => format!("tolerance refused with {refusal}"),
-        Failure::OldFile(fault) => format!("old file refused with {}", fault.refusal),
-        Failure::NewFile(fault) => format!("new file refused with {}", fault.refusal),
-        Failure::Refused(refusal) => format!("exchange refused with  {refusal}"),
-        Failure::OutOfOrder(refusal, _) => format!("pair out of order, {refusal}"),
     }
 }
 

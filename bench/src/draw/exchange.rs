@@ -5,6 +5,9 @@ use crate::implementation::{
     Answer, Call, Cause, Codes, Exchange, Layer, Likeness, Pair, Proposal,
 };
 
+/// The entries that a code list has room for.
+const MOST_CODES: usize = 8;
+
 fn likeness(dice: &mut Dice) -> (Likeness, &'static [i16]) {
     match dice.below(4) {
         0 => (tolerances(dice), &[0, 1, 2, 5, -1, 1_001]),
@@ -19,8 +22,13 @@ fn likeness(dice: &mut Dice) -> (Likeness, &'static [i16]) {
 }
 
 fn codes(dice: &mut Dice, readings: &[i16]) -> Codes {
+    let most = dice.below(4);
+    so_many_codes(dice, readings, most)
+}
+
+fn so_many_codes(dice: &mut Dice, readings: &[i16], count: usize) -> Codes {
     let mut entries = Vec::new();
-    for _ in 0..dice.below(4) {
+    for _ in 0..count {
         entries.push((dice.pick(readings), dice.pick(readings)));
     }
     Codes {
@@ -102,6 +110,26 @@ pub fn of_files(dice: &mut Dice) -> Exchange {
 
 fn tolerances(dice: &mut Dice) -> Likeness {
     Likeness::Within([(); 8].map(|()| dice.pick(&[0, 1, 4, 1_000])))
+}
+
+/// An exchange of two files under one code list, which is full or has more
+/// entries than it has room for. Then a tolerance may be too wide as well.
+pub fn of_codes(dice: &mut Dice) -> Exchange {
+    let Exchange {
+        old,
+        new,
+        mut likeness,
+    } = of_files(dice);
+    let count = dice.between(MOST_CODES, MOST_CODES + 2);
+    let codes = so_many_codes(dice, &[0, 1, 2, 5, -1, 1_001], count);
+    if count > MOST_CODES && dice.once_in(2) {
+        likeness = Likeness::Within([1_001; 8]);
+    }
+    Exchange {
+        old: Layer::coded(old, codes.clone()),
+        new: Layer::coded(new, codes),
+        likeness,
+    }
 }
 
 /// A joint of two files, now and then one that is too large for a docket.

@@ -130,8 +130,11 @@ struct Sides {
 }
 
 impl Sides {
-    /// Tests the tolerances, and reads the files of both sides.
+    /// Tests the code lists and the tolerances, and reads the files of both
+    /// sides.
     fn read(exchange: &Exchange, memory: &Memory) -> Result<Self, Failure> {
+        check_codes(&exchange.old)?;
+        check_codes(&exchange.new)?;
         check_tolerances(&exchange.likeness)?;
         let (mut old, mut new) = (Vec::new(), Vec::new());
         read_files(&exchange.old, memory.old_words.len(), &mut old).map_err(Failure::OldFile)?;
@@ -156,6 +159,20 @@ impl Sides {
     fn lay_out(&self, memory: &mut Memory) {
         lay_out(&self.old, memory.old_words);
         lay_out(&self.new, memory.new_words);
+    }
+}
+
+fn check_codes(layer: &Layer) -> Result<(), Failure> {
+    match layer {
+        Layer::File(_) | Layer::Buffer(_) => Ok(()),
+        Layer::Joint(first, second) => {
+            check_codes(first)?;
+            check_codes(second)
+        }
+        Layer::Coded(below, codes) => {
+            code_list(codes).map_err(|refusal| Failure::Codes(refusal.number()))?;
+            check_codes(below)
+        }
     }
 }
 
@@ -190,13 +207,17 @@ fn take_stored<'a>(words: &mut &'a [u16]) -> Stored<'a> {
     stored
 }
 
-fn code_list(codes: &Codes) -> CodeList {
+fn code_list(codes: &Codes) -> Result<CodeList, PlainRefusal> {
     let mut list = CodeList::new(codes.channel, codes.cut);
     for &(from, to) in &codes.entries {
-        list.add(from, to)
-            .expect("a code list has at most 8 entries");
+        list.add(from, to)?;
     }
-    list
+    Ok(list)
+}
+
+/// A code list that was tested before.
+fn tested_code_list(codes: &Codes) -> CodeList {
+    code_list(codes).expect("a code list has at most 8 entries")
 }
 
 /// A layer of any depth, over the words of its files.
@@ -210,7 +231,7 @@ fn build<'a>(layer: &Layer, words: &mut &'a [u16]) -> Box<dyn System + 'a> {
         }),
         Layer::Coded(below, codes) => Box::new(Coded {
             below: build(below, words),
-            codes: code_list(codes),
+            codes: tested_code_list(codes),
         }),
     }
 }
@@ -237,7 +258,7 @@ macro_rules! with_system {
             Layer::Coded(below, codes) if matches!(&**below, Layer::File(_)) => {
                 let $system = Coded {
                     below: take_stored(&mut words),
-                    codes: code_list(codes),
+                    codes: tested_code_list(codes),
                 };
                 $body
             }

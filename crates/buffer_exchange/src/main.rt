@@ -20,12 +20,14 @@ fn report(rt: &HostRuntime, old: u8, new: u8) -> anyhow::Result<()> {
         likeness: &Exact,
     };
     let mut table = [0; PAIRS];
+    // with room for every answer, since nothing is proposed
+    let mut answers = Vec::new(rt.alloc());
     println!(rt; "old capacity {old}, new capacity {new}")?;
-    match Docket::new().decide(rt.alloc(), &exchange, &mut table, &[]) {
-        Ok(decision) => {
-            println!(rt; "swept {}", decision.swept)?;
-            println!(rt; "standing {}", decision.standing)?;
-            let verdict = if decision.replaces {
+    match Docket::new().decide(&exchange, &mut table, &[], &mut answers) {
+        Ok(outcome) => {
+            println!(rt; "swept {}", outcome.swept)?;
+            println!(rt; "standing {}", outcome.standing)?;
+            let verdict = if outcome.replaces {
                 "replaces"
             } else {
                 "differs"

@@ -6,6 +6,16 @@ use Rattle.codec.specs.declared.number.NumberFault.TheVariants.{Ends, TooLong, T
 use Rattle.codec.specs.declared.number.WriteFault.{WriteFault}
 use Rattle.codec.specs.declared.number.WriteFault.TheVariants.{TooFewBytes}
 
+-- the number of each reason why no number can be read
+abbrev pub number_refusal : NumberFault → ℕ
+number_refusal Ends = 15
+number_refusal TooLong = 16
+number_refusal TooLarge = 17
+
+-- and why none is written
+abbrev pub write_refusal : WriteFault → ℕ
+write_refusal TooFewBytes = 23
+
 -- the number that ends in the third byte; low is what the first two groups are worth
 abbrev pub third_byte : ℕ → List ℕ → Result (ℕ × List ℕ) NumberFault
 third_byte low [] = Err Ends

@@ -1,6 +1,6 @@
 //! Numbers of 16 bits in groups of seven bits, the least group first; the high bit is set on every byte but the last.
 ghost use Rattle.std.specs.Prelude.{◌≡◌, ◌≤◌, length, drop, IfOk, Ok};
-ghost use Rattle.codec.specs.Number.{number, value_and_rest, encoded, put_answer, put_in_front, NoneShorter};
+ghost use Rattle.codec.specs.Number.{number, number_refusal, value_and_rest, encoded, put_answer, put_in_front, write_refusal, NoneShorter};
 
 /// The least byte with its high bit set, behind which another byte follows; also how many values a group has.
 const HIGH_BIT: u8 = 128;
@@ -26,11 +26,30 @@ pub enum NumberFault {
     TooLarge = 17,
 }
 
+impl NumberFault {
+    /// The number of the refusal.
+    pub fn number(self) -> u8
+        ensures { result ≡ number_refusal self }
+    {
+        // a cast, which gives the numbers above
+        self as u8
+    }
+}
+
 /// Why no number could be written, with the number of that refusal.
 #[derive(Clone, Copy, Debug, PartialEq, Eq)]
 pub enum WriteFault {
     /// There are fewer bytes than the number takes.
     TooFewBytes = 23,
+}
+
+impl WriteFault {
+    /// The number of the refusal.
+    pub fn number(self) -> u8
+        ensures { result ≡ write_refusal self }
+    {
+        self as u8
+    }
 }
 
 /// The number at the front of the bytes, and the bytes behind it.

@@ -20,7 +20,6 @@ fn bad_numbers_are_refused(rt: HostRuntime) {
     assert_eq!(rt; read(&[0x80, 0x80]), Err(NumberFault::Ends));
     assert_eq!(rt; read(&[0x80, 0x80, 0x80]), Err(NumberFault::TooLong));
     assert_eq!(rt; read(&[0x80, 0x80, 0x04]), Err(NumberFault::TooLarge));
-    assert_eq!(rt; NumberFault::TooLarge as u8, 17);
 }
 
 #[test]
@@ -36,7 +35,6 @@ fn numbers_are_written(rt: HostRuntime) {
         write_number(16_384, &mut bytes[0..2]),
         Err(WriteFault::TooFewBytes)
     );
-    assert_eq!(rt; WriteFault::TooFewBytes as u8, 23);
     assert_eq!(rt; bytes, [0xFF, 0xFF, 0x03, 0xEE]);
 }
 

@@ -1,52 +1,53 @@
 //! Prints what the system file on standard input describes, or with the argument `exchange` what an input of that program holds.
 #![tactic(auto)]
 
-use anyhow::bail;
-use description::{describe, describe_input};
-use report::MOST_BYTES;
-use std::env;
-use std::io::Read;
+use description::{describe_from, describe_input_from};
+use std::env::{self, Args};
+use std::process::ExitCode;
+use streams::finish;
 
-/// How many bytes of an input are read: one more than it may have, which tells that it has too many.
-const MOST_READ: u64 = MOST_BYTES as u64 + 1;
+/// The status of a program whose arguments are refused.
+const FAILED: u8 = 1;
 
-/// Prints what a system file describes.
-fn print_file(rt: &HostRuntime) -> anyhow::Result<()> {
-    let mut bytes = Vec::new(rt.alloc());
-    rt.stdin().read_to_end(&mut bytes)?;
-    match describe(rt.alloc(), &bytes) {
-        Ok(text) => {
-            print!(rt; "{text}")?;
-            Ok(())
-        }
-        Err(error) => {
-            println!(rt; "{error}")?;
-            bail!("there is no description");
-        }
+/// What is to be described.
+#[derive(Clone, Copy)]
+enum Subject {
+    SystemFile,
+    Input,
+}
+
+/// What the arguments behind the name of the program ask for, if there is a description of it.
+fn subject_of(mut arguments: Args) -> Option<Subject> {
+    arguments.next();
+    let Some(word) = arguments.next() else {
+        return Some(Subject::SystemFile);
+    };
+    if word.as_str() == "exchange" && arguments.next().is_none() {
+        Some(Subject::Input)
+    } else {
+        None
     }
 }
 
-/// Prints what an input of `exchange` holds.
-fn print_input(rt: &HostRuntime) -> anyhow::Result<()> {
-    let mut bytes = Vec::new(rt.alloc());
-    rt.stdin().take(MOST_READ).read_to_end(&mut bytes)?;
-    match describe_input(rt.alloc(), &bytes) {
-        Ok(text) => {
-            print!(rt; "{text}")?;
-            Ok(())
+fn main(rt: HostRuntime) -> ExitCode {
+    let Ok(arguments) = env::args(&rt) else {
+        // a message that cannot be printed changes nothing
+        let _ = rt.eprintln("the arguments cannot be read");
+        return ExitCode::from(FAILED);
+    };
+    let heap = rt.alloc();
+    match subject_of(arguments) {
+        Some(Subject::SystemFile) => finish(
+            &rt,
+            describe_from(heap, &mut rt.stdin(), &mut rt.stdout()),
+        ),
+        Some(Subject::Input) => finish(
+            &rt,
+            describe_input_from(heap, &mut rt.stdin(), &mut rt.stdout()),
+        ),
+        None => {
+            let _ = rt.eprintln("usage: describe [exchange]");
+            ExitCode::from(FAILED)
         }
-        Err(error) => {
-            print!(rt; "{error}")?;
-            bail!("there is no description");
-        }
-    }
-}
-
-fn main(rt: HostRuntime) -> anyhow::Result<()> {
-    let arguments: Vec<String> = env::args(&rt)?.skip(1).collect(rt.alloc())?;
-    match arguments.as_slice() {
-        [] => print_file(&rt),
-        [program] if program.as_str() == "exchange" => print_input(&rt),
-        _ => bail!("usage: describe [exchange]"),
     }
 }

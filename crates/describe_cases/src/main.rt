@@ -2,7 +2,7 @@
 #![tactic(auto)]
 
 use anyhow::bail;
-use description::describe_input;
+use description::print_input;
 use std::io::Read;
 
 /// The first input, and what stands behind it; none where the bytes do not begin with one.
@@ -16,9 +16,8 @@ fn take_input(bytes: &[u8]) -> Option<(&[u8], &[u8])> {
 /// Prints the description of one input.
 fn tell_description(rt: &HostRuntime, case: usize, input: &[u8]) -> anyhow::Result<()> {
     println!(rt; "case {case}, {} bytes", input.len())?;
-    match describe_input(rt.alloc(), input) {
-        Ok(text) => print!(rt; "{text}")?,
-        Err(error) => print!(rt; "{error}")?,
+    if let Err(failure) = print_input(rt.alloc(), input, &mut rt.stdout()) {
+        bail!("{failure}");
     }
     Ok(())
 }

@@ -1,2 +1,4 @@
+mod Described
+mod Front
 mod Lines
 mod Texts

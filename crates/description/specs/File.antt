@@ -21,8 +21,8 @@ description bytes = file_text (file_read bytes 0).end (length bytes) (described 
 abbrev pub most_words : ℕ
 most_words = words_taken 256 8
 
--- the answer with so many words of memory: the description where the file has no fault, else its first fault
-abbrev pub Describes : List ℕ → ℕ → Result (String Global) DescribeError → Type 0
-Describes bytes room (Ok text) = (file_fault bytes 0 room ≡ None) × (string_bytes text ≡ description bytes)
-Describes bytes room (Err (Refused fault)) = file_fault bytes 0 room ≡ Some fault
-Describes bytes room (Err NoMemory) = Unit {0}
+-- the answer: the description where the file has no fault, else its first fault
+abbrev pub Describes : List ℕ → Result (String Global) DescribeError → Type 0
+Describes bytes (Ok text) = (file_fault bytes 0 most_words ≡ None) × (string_bytes text ≡ description bytes)
+Describes bytes (Err (Refused fault)) = file_fault bytes 0 most_words ≡ Some fault
+Describes bytes (Err NoMemory) = Unit {0}

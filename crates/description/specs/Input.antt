@@ -1,14 +1,17 @@
 -- What an input of an exchange holds, as text for a person.
 use Prim.Native.Char.{code}
-use Rattle.std.specs.Prelude.{ℕ, ◌/◌, ◌%◌, Bool, false, not, ◌&&◌, ◌==◌, cond, List, [], ◌∷◌, ◌++◌, codes, decimal, nat_le}
+use Rattle.std.specs.Prelude.{◌≡◌, ℕ, ◌/◌, ◌%◌, Bool, false, not, ◌&&◌, ◌==◌, cond, List, [], ◌∷◌, ◌++◌, Some, None, Ok, Err, Result, String, codes, decimal, nat_le, string_bytes}
 use Rattle.std.specs.Fmt.{digit_glyph}
 use Rattle.std.specs.List.{flat_map}
+use Rattle.std.specs.declared.alloc.Global.{Global}
 use Rattle.systems.specs.Meaning.{Meaning}
 use Rattle.files.specs.declared.record.Text.{Text}
 use Rattle.files.specs.declared.record.Record.{Record}
 use Rattle.files.specs.declared.record.Record.TheVariants.{Sight, Move, Maker, Remark}
-use Rattle.report.specs.Input.{list_place, listed, new_system, old_system, tolerance}
+use Rattle.report.specs.Input.{input_fault, list_place, listed, new_system, old_system, tolerance}
 use Rattle.description.specs.Text.{count_line, system_text}
+use Rattle.description.specs.declared.input.DescribeInputError.{DescribeInputError}
+use Rattle.description.specs.declared.input.DescribeInputError.TheVariants.{Refused, NoMemory}
 
 -- whether a byte of a text is printed as it is: a printable ASCII character other than `\`
 abbrev pub is_plain : ℕ → Bool
@@ -56,3 +59,9 @@ parts_text tolerance old new records =
 -- the text of a whole input
 abbrev pub input_text : List ℕ → List ℕ
 input_text input = parts_text (tolerance input) (old_system input) (new_system input) (records_text input (list_place input))
+
+-- the answer: the text where the input has no fault, else its first fault
+abbrev pub DescribesInput : List ℕ → Result (String Global) DescribeInputError → Type 0
+DescribesInput input (Ok text) = (input_fault input ≡ None) × (string_bytes text ≡ input_text input)
+DescribesInput input (Err (Refused fault)) = input_fault input ≡ Some fault
+DescribesInput input (Err NoMemory) = Unit {0}

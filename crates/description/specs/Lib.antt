@@ -1,4 +1,5 @@
-pub mod Failure
 pub mod File
 pub mod Input
+pub mod Program
+pub mod Refusal
 pub mod Text

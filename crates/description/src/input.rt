@@ -1,18 +1,44 @@
 //! What an input of an exchange holds, as text for a person.
-ghost use Rattle.std.specs.Prelude.{◌≡◌, Some, string_bytes};
-ghost use Rattle.report.specs.Answer.{Unless, WantsMemory};
+ghost use Rattle.std.specs.Prelude.{◌≡◌, Err, None, Some, string_bytes};
 ghost use Rattle.report.specs.Input.{input_fault};
-ghost use Rattle.description.specs.Input.{byte_text, input_text, is_plain, parts_text, readable, record_line, records_text};
+ghost use Rattle.description.specs.Input.{DescribesInput, byte_text, input_text, is_plain, parts_text, readable, record_line, records_text};
+ghost use Rattle.description.specs.declared.input.DescribeInputError.TheVariants.{Refused, NoMemory};
 
 use crate::text::Whole;
+use crate::words::laid_out;
 use files::{Record, read_record};
-use report::{ReportError, read_input};
-use std::alloc::Global;
+use report::{InputFault, SYSTEM_ROOM, read_input};
+use std::alloc::{AllocError, Global};
 use std::fmt;
 use systems::{Stored, System};
 
 /// A channel. The tolerance of an input is the same on each.
 const SOME_CHANNEL: u8 = 0;
+
+/// Why there is no description of an input.
+#[derive(Clone, Copy, Debug, PartialEq, Eq, Drop)]
+pub enum DescribeInputError {
+    /// The input is refused.
+    Refused(InputFault),
+    /// There was no memory for the words of the systems or the text.
+    NoMemory,
+}
+
+impl From<AllocError> for DescribeInputError {
+    ghost from_gives = { λ _ r. r ≡ NoMemory };
+
+    fn from(_: AllocError) -> DescribeInputError {
+        DescribeInputError::NoMemory
+    }
+}
+
+impl From<InputFault> for DescribeInputError {
+    ghost from_gives = { λ fault r. r ≡ Refused fault };
+
+    fn from(fault: InputFault) -> DescribeInputError {
+        DescribeInputError::Refused(fault)
+    }
+}
 
 /// Whether a byte of a text is printed as it is: a printable ASCII character other than `\`, which begins a byte in hexadecimal.
 fn is_plain(byte: u8) -> bool
@@ -122,16 +148,18 @@ impl<S: System, T: System> fmt::Display for Parts<'_, S, T> {
 }
 
 /// What a whole input holds, as text: the tolerance, the two systems, and the list record by record; or the first fault of the input.
-#[tactic(auto, using(systems::proofs::LaidOut::stored_words_kept))]
-pub fn describe_input(heap: Global, input: &[u8]) -> Result<String, ReportError>
-    ensures text { Unless (input_fault input.now) (λ text. string_bytes text ≡ input_text input.now) result }
-    ensures memory { WantsMemory (input_fault input.now) result }
+pub fn describe_input(heap: Global, input: &[u8]) -> Result<String, DescribeInputError>
+    ensures text { DescribesInput input.now result }
+    ensures memory { result ≡ Err NoMemory → input_fault input.now ≡ None }
 {
-    let read = read_input(heap, input)?;
+    // before memory is asked for, so that a fault is told whether there is memory or not
+    let read = read_input(input)?;
+    let old_words = laid_out(heap, &read.old, SYSTEM_ROOM)?;
+    let new_words = laid_out(heap, &read.new, SYSTEM_ROOM)?;
     let parts = Parts {
         tolerance: read.likeness.tolerance(SOME_CHANNEL),
-        old: &Stored::new(&read.old_words),
-        new: &Stored::new(&read.new_words),
+        old: &Stored::new(&old_words),
+        new: &Stored::new(&new_words),
         records: Records {
             input,
             place: read.list_place,

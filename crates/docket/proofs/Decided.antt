@@ -1,5 +1,5 @@
 -- What sweeps count and keep, what it tells that one makes no strike, and where a decision ends.
-use Rattle.std.proofs.Common.{◌≡◌, ℕ, zero, suc, ◌+◌, ◌*◌, ◌<◌, ◌≤◌, Bool, true, false, ◌&&◌, eqb, ltb, ◌≢◌, List, [], ◌∷◌, ◌++◌, All, map, replicate, length, sum, None, Ok, vec_items, Decides, Result, sym, refl, ap, ◌∙◌, subst, inl, inr, append_assoc, arith}
+use Rattle.std.proofs.Common.{◌≡◌, ℕ, zero, suc, ◌+◌, ◌*◌, ◌<◌, ◌≤◌, Bool, true, false, ◌&&◌, eqb, ltb, ◌≢◌, List, [], ◌∷◌, ◌++◌, All, map, replicate, length, sum, None, Ok, Decides, Result, sym, refl, ap, ◌∙◌, subst, inl, inr, append_assoc, arith}
 use Rattle.std.proofs.lemmas.Nat.{mul-le}
 use Rattle.std.proofs.lemmas.List.Elements.{All-cons, All-nil}
 use Rattle.std.proofs.lemmas.List.Sums.{sum_by-cons}
@@ -27,7 +27,6 @@ use Rattle.docket.specs.declared.call.Call.{Call}
 use Rattle.docket.specs.declared.call.Call.TheVariants.{Open, Sweep, Settle}
 use Rattle.docket.specs.declared.call.Grant.{Grant}
 use Rattle.docket.specs.declared.call.Grant.TheVariants.{Opened, Swept as SweptGrant, Checked}
-use Rattle.docket.specs.declared.decision.Decision.{Decision}
 use Rattle.docket.specs.declared.outcome.Outcome.{Outcome}
 use Rattle.docket.specs.declared.refusal.Refusal.{Refusal}
 use Rattle.docket.specs.declared.strike.Settlement.TheVariants.{Settled}
@@ -325,23 +324,14 @@ module _ (A : Arena) (c : Closed A) (x : Position) (granted : opening_refusal A 
       let verdict : o.replaces ≡ start_stands A y.table = ap (λ z. z.replaces) told ∙ ap (λ z. start_stands A z.table) (sym third) in
       ((large, subst (λ b. Decides b (Replaces A)) (sym verdict) (replaces_by A y.table large)), accepted_behind_sweeps A c p opened_under_way y third)
 
--- A decision whose opening is granted: behind the opening it is at p, behind the calls at q, and the sweeps lead from there to y.
-module _ (A : Arena) (c : Closed A) (x : Position) (calls : List Call) (granted : opening_refusal A (length x.table) ≡ None) (p q : Position) (first : p ≡ open_does A x) (second : q ≡ after A p calls) where
-  opened_behind : p ≡ opened A x
-  opened_behind = behind_opening A c x granted p first
+-- A decision whose opening is granted: behind the proposals it is at q, and the sweeps lead from there to y.
+module _ (A : Arena) (c : Closed A) (x : Position) (strikes : List Strike) (granted : opening_refusal A (length x.table) ≡ None) (q : Position) (led : q ≡ after A (opened A x) (proposals strikes)) where
+  pub proposals_under_way : UnderWay A q
+  proposals_under_way = record { before = x; calls = proposals strikes; granted = granted; led = led }
 
-  pub behind_calls : q ≡ after A (opened A x) calls
-  behind_calls = second ∙ ap (λ z. after A z calls) opened_behind
-
-  pub answers_behind : answers A p calls ≡ answers A (opened A x) calls
-  answers_behind = ap (λ z. answers A z calls) opened_behind
-
-  pub calls_under_way : UnderWay A q
-  calls_under_way = record { before = x; calls = calls; granted = granted; led = behind_calls }
-
-  module _ (y : Position) (third : y ≡ (swept_out A (pairs A) q).position) where
+  module _ (y : Position) (third : y ≡ (swept_out A (pairs A) q).position) (o : Outcome) (outcome : o ≡ outcome_of A (swept_out A (pairs A) q)) where
     swept_calls : SweptOut A q (swept_out A (pairs A) q)
-    swept_calls = swept_out_calls A c (pairs A) q (good_under_way A c q calls_under_way) (omega arith)
+    swept_calls = swept_out_calls A c (pairs A) q (good_under_way A c q proposals_under_way) (omega arith)
 
     -- the sweeps and the settle check
     abbrev last_calls : List Call
@@ -350,52 +340,53 @@ module _ (A : Arena) (c : Closed A) (x : Position) (calls : List Call) (granted 
     last_calls_lead : y ≡ after A q last_calls
     last_calls_lead = third ∙ swept_calls.ended ∙ sym (after_more A q (sweeps swept_calls.made) (Settle ∷ []))
 
-    last_calls_answer : answers A q last_calls ≡ swept_answers swept_calls.made ++ Ok (Checked (Settled (number_standing A y.table))) ∷ []
+    counted : o.standing ≡ number_standing A y.table
+    counted = ap (λ z. z.standing) outcome ∙ ap (λ z. number_standing A z.table) (sym third)
+
+    last_calls_answer : answers A q last_calls ≡ swept_answers swept_calls.made ++ Ok (Checked (Settled o.standing)) ∷ []
     last_calls_answer =
         answers_more A q (sweeps swept_calls.made) (Settle ∷ [])
         ∙ ap (λ rs. rs ++ answers A (after A q (sweeps swept_calls.made)) (Settle ∷ [])) swept_calls.answered
         ∙ ap (λ z. swept_answers swept_calls.made ++ answers A z (Settle ∷ [])) (sym (third ∙ swept_calls.ended))
-        ∙ ap (λ r. swept_answers swept_calls.made ++ granted_as (λ s. Checked s) r ∷ []) (settled_behind_sweeps A c q calls_under_way y third)
+        ∙ ap (λ r. swept_answers swept_calls.made ++ granted_as (λ s. Checked s) r ∷ []) (settled_behind_sweeps A c q proposals_under_way y third)
+        ∙ ap (λ n. swept_answers swept_calls.made ++ Ok (Checked (Settled n)) ∷ []) (sym counted)
 
     -- the decision is a run
-    run_told : (d : Decision) (strikes : List Strike) → calls ≡ proposals strikes → vec_items d.answers ≡ answers A p calls → d.swept ≡ (swept_out A (pairs A) q).made → d.standing ≡ number_standing A y.table → IsRun A x strikes d y
-    run_told d strikes as_calls answered swept counted = record {
+    run_told : IsRun A x strikes o y
+    run_told = record {
       made = swept_calls.made;
       each_strikes = swept_calls.each_strikes;
-      total = swept ∙ swept_calls.total;
+      total = ap (λ z. z.swept) outcome ∙ swept_calls.total;
       answered =
           ap (λ cs. answers A x cs) (append_assoc (Open ∷ proposals strikes) (sweeps swept_calls.made) (Settle ∷ []))
           ∙ ap (λ o. granted_as (λ n. Opened n) (unless o (pairs A)) ∷ answers A (if_granted o (opened A x) x) (proposals strikes ++ last_calls)) granted
-          ∙ ap (λ cs. Ok (Opened (pairs A)) ∷ answers A (opened A x) (cs ++ last_calls)) (sym as_calls)
-          ∙ ap (λ rs. Ok (Opened (pairs A)) ∷ rs) (answers_more A (opened A x) calls last_calls)
-          ∙ ap (λ rs. Ok (Opened (pairs A)) ∷ rs ++ answers A (after A (opened A x) calls) last_calls) (sym (answered ∙ answers_behind))
-          ∙ ap (λ z. Ok (Opened (pairs A)) ∷ vec_items d.answers ++ answers A z last_calls) (sym behind_calls)
-          ∙ ap (λ rs. Ok (Opened (pairs A)) ∷ vec_items d.answers ++ rs) (last_calls_answer ∙ ap (λ n. swept_answers swept_calls.made ++ Ok (Checked (Settled n)) ∷ []) (sym counted))
-          ∙ sym (append_assoc (Ok (Opened (pairs A)) ∷ vec_items d.answers) (swept_answers swept_calls.made) (Ok (Checked (Settled d.standing)) ∷ []));
+          ∙ ap (λ rs. Ok (Opened (pairs A)) ∷ rs) (answers_more A (opened A x) (proposals strikes) last_calls)
+          ∙ ap (λ z. Ok (Opened (pairs A)) ∷ answers A (opened A x) (proposals strikes) ++ answers A z last_calls) (sym led)
+          ∙ ap (λ rs. Ok (Opened (pairs A)) ∷ answers A (opened A x) (proposals strikes) ++ rs) last_calls_answer
+          ∙ sym (append_assoc (Ok (Opened (pairs A)) ∷ answers A (opened A x) (proposals strikes)) (swept_answers swept_calls.made) (Ok (Checked (Settled o.standing)) ∷ []));
       ended =
           last_calls_lead
-          ∙ ap (λ z. after A z last_calls) behind_calls
-          ∙ sym (after_more A (opened A x) calls last_calls)
-          ∙ ap (λ cs. after A (opened A x) (cs ++ last_calls)) as_calls
+          ∙ ap (λ z. after A z last_calls) led
+          ∙ sym (after_more A (opened A x) (proposals strikes) last_calls)
           ∙ ap (λ o. after A (if_granted o (opened A x) x) (proposals strikes ++ last_calls)) (sym granted)
           ∙ sym (ap (λ cs. after A x cs) (append_assoc (Open ∷ proposals strikes) (sweeps swept_calls.made) (Settle ∷ [])));
       law = run_law A c x (decision_calls strikes (suc (length swept_calls.made)));
     }
 
     -- all that the decision tells
-    pub told : (d : Decision) (z : Position) (strikes : List Strike) → calls ≡ proposals strikes → z ≡ y → vec_items d.answers ≡ answers A p calls → d.swept ≡ (swept_out A (pairs A) q).made → d.standing ≡ number_standing A y.table → d.replaces ≡ start_stands A z.table → Told A x strikes d z
-    told d z strikes as_calls same answered swept counted verdict =
-        let swept_from_calls : swept_out A (pairs A) q ≡ decision A x strikes = ap (λ z. swept_out A (pairs A) z) behind_calls ∙ ap (λ cs. swept_out A (pairs A) (after A (opened A x) cs)) as_calls in
-        let large : Largest A (standing A z.table) = subst (λ o. Largest A (standing A o.table)) (sym same) (largest_behind_sweeps A c q calls_under_way y third) in
+    pub told : Told A x strikes o y
+    told =
+        let decided : swept_out A (pairs A) q ≡ decision A x strikes = ap (λ z. swept_out A (pairs A) z) led in
+        let verdict : o.replaces ≡ start_stands A y.table = ap (λ z. z.replaces) outcome ∙ ap (λ z. start_stands A z.table) (sym third) in
+        let large = largest_behind_sweeps A c q proposals_under_way y third in
         record {
           granted = granted;
-          answered = answered ∙ answers_behind ∙ ap (λ cs. answers A (opened A x) cs) as_calls;
-          ended = same ∙ third ∙ ap (λ o. o.position) swept_from_calls;
-          swept = swept ∙ ap (λ o. o.made) swept_from_calls;
-          counted = counted ∙ ap (λ o. number_standing A o.table) (sym same);
+          ended = third ∙ ap (λ z. z.position) decided;
+          swept = ap (λ z. z.swept) outcome ∙ ap (λ z. z.made) decided;
+          counted = counted;
           verdict = verdict;
-          run = subst (λ o. IsRun A x strikes d o) (sym same) (run_told d strikes as_calls answered swept counted);
+          run = run_told;
           largest = large;
-          decides = subst (λ b. Decides b (Replaces A)) (sym verdict) (replaces_by A z.table large);
-          accepted = subst (λ o. certificate_says A o.table ≡ Ok (certificate A o.table)) (sym same) (accepted_behind_sweeps A c q calls_under_way y third);
+          decides = subst (λ b. Decides b (Replaces A)) (sym verdict) (replaces_by A y.table large);
+          accepted = accepted_behind_sweeps A c q proposals_under_way y third;
         }

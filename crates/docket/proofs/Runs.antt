@@ -1,12 +1,15 @@
 -- The loop over the calls of a run.
 use Rattle.std.proofs.Common.{◌≡◌, ℕ, ◌+◌, ◌<◌, ◌≤◌, List, [], ◌∷◌, ◌++◌, length, get_or, drop, Result, refl, sym, ap, ◌∙◌, append_assoc, append-nil}
-use Rattle.std.proofs.lemmas.List.{at_drop_all, at_drop_more}
+use Rattle.std.proofs.lemmas.List.{at_drop_all, at_drop_more, get_or-map, length-map}
 use Rattle.arena.specs.Arena.{Arena}
+use Rattle.docket.specs.Decide.{proposals}
 use Rattle.docket.specs.Position.{Position}
 use Rattle.docket.specs.Run.{after, answers, does, says}
 use Rattle.docket.specs.declared.call.Call.{Call}
+use Rattle.docket.specs.declared.call.Call.TheVariants.{Open, Strike}
 use Rattle.docket.specs.declared.call.Grant.{Grant}
 use Rattle.docket.specs.declared.refusal.Refusal.{Refusal}
+use Rattle.docket.specs.declared.strike.Strike.{Strike as Proposal}
 
 module _ (A : Arena) (calls : List Call) (i : ℕ) (any : Call) where
   -- where the calls that are left lead, when one more is made
@@ -22,6 +25,13 @@ module _ (A : Arena) (calls : List Call) (i : ℕ) (any : Call) where
       ∙ ap (λ a. given ++ a ∷ answers A y (drop (i + 1) calls)) s
       ∙ ap (λ z. given ++ says A x (get_or calls i any) ∷ answers A z (drop (i + 1) calls)) e
       ∙ sym (at_drop_more (λ cs. given ++ answers A x cs) calls i any l)
+
+-- the strikes that are proposed, as calls
+pub proposal_at : (strikes : List Proposal) (i : ℕ) (any : Proposal) → i < length strikes → Strike (get_or strikes i any) ≡ get_or (proposals strikes) i Open
+proposal_at strikes i any l = sym (get_or-map (λ s. Strike s) strikes i any Open l)
+
+pub proposed : (strikes : List Proposal) → length (proposals strikes) ≡ length strikes
+proposed strikes = length-map strikes (λ s. Strike s)
 
 -- calls made behind others
 module _ (A : Arena) where

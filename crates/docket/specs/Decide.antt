@@ -1,5 +1,5 @@
 -- Decisions: an opening, the strikes that are proposed, sweeps until one makes none, and the verdict.
-use Rattle.std.specs.Prelude.{◌≡◌, ℕ, zero, suc, ◌+◌, ◌≤◌, cond, List, [], ◌∷◌, ◌++◌, All, map, replicate, length, sum, Some, None, Ok, Err, vec_items, Decides, Result, ◌==◌, ◌≢◌}
+use Rattle.std.specs.Prelude.{◌≡◌, ℕ, zero, suc, ◌+◌, cond, List, [], ◌∷◌, ◌++◌, All, map, replicate, length, sum, Some, None, Ok, Err, Decides, Result, ◌==◌, ◌≢◌}
 use Rattle.arena.specs.Arena.{Arena}
 use Rattle.arena.specs.Pairs.{Largest, Replaces}
 use Rattle.arena.specs.Table.{number_standing, pairs, standing, start_stands}
@@ -15,7 +15,7 @@ use Rattle.docket.specs.declared.call.Grant.{Grant}
 use Rattle.docket.specs.declared.call.Grant.TheVariants.{Opened, Swept as SweptGrant, Checked}
 use Rattle.docket.specs.declared.decision.DecideError.{DecideError}
 use Rattle.docket.specs.declared.decision.DecideError.TheVariants.{NoMemory, Refused}
-use Rattle.docket.specs.declared.decision.Decision.{Decision}
+use Rattle.docket.specs.declared.outcome.Outcome.{Outcome}
 use Rattle.docket.specs.declared.refusal.Refusal.{Refusal}
 use Rattle.docket.specs.declared.strike.Settlement.TheVariants.{Settled}
 use Rattle.docket.specs.declared.strike.Strike.{Strike as Proposal}
@@ -49,36 +49,43 @@ abbrev pub decision_calls : List Proposal → ℕ → List Call
 decision_calls strikes sweeps = Open ∷ proposals strikes ++ replicate sweeps (Sweep full_budget) ++ Settle ∷ []
 
 -- what they answer, with how many strikes each sweep made before the last, which made none
-abbrev pub decision_answers : Arena → Decision → List ℕ → List (Result Grant Refusal)
-decision_answers A d made = Ok (Opened (pairs A)) ∷ vec_items d.answers ++ map (λ n. Ok (SweptGrant n)) (made ++ 0 ∷ []) ++ Ok (Checked (Settled d.standing)) ∷ []
+abbrev pub decision_answers : Arena → Position → List Proposal → Outcome → List ℕ → List (Result Grant Refusal)
+decision_answers A x strikes o made =
+    Ok (Opened (pairs A)) ∷ answers A (opened A x) (proposals strikes)
+    ++ map (λ n. Ok (SweptGrant n)) (made ++ 0 ∷ [])
+    ++ Ok (Checked (Settled o.standing)) ∷ []
 
 -- That a decision is the run of its calls from x to y, with sweeps until one makes no strike.
-pub record IsRun (A : Arena) (x : Position) (strikes : List Proposal) (d : Decision) (y : Position) : Type 0 where
+pub record IsRun (A : Arena) (x : Position) (strikes : List Proposal) (o : Outcome) (y : Position) : Type 0 where
   -- how many strikes each sweep made before the last
   pub made : List ℕ
   pub each_strikes : All (λ n. n ≢ 0) made
-  pub total : d.swept ≡ sum made
-  pub answered : answers A x (decision_calls strikes (suc (length made))) ≡ decision_answers A d made
+  pub total : o.swept ≡ sum made
+  pub answered : answers A x (decision_calls strikes (suc (length made))) ≡ decision_answers A x strikes o made
   pub ended : y ≡ after A x (decision_calls strikes (suc (length made)))
   -- and so what holds behind each of its calls
   pub law : RunLaw A x (decision_calls strikes (suc (length made)))
 
 -- What a decision tells that began at x and ended at y.
-pub record Told (A : Arena) (x : Position) (strikes : List Proposal) (d : Decision) (y : Position) : Type 0 where
+pub record Told (A : Arena) (x : Position) (strikes : List Proposal) (o : Outcome) (y : Position) : Type 0 where
   pub granted : opening_refusal A (length x.table) ≡ None
-  pub answered : vec_items d.answers ≡ answers A (opened A x) (proposals strikes)
   pub ended : y ≡ (decision A x strikes).position
-  pub swept : d.swept ≡ (decision A x strikes).made
-  pub counted : d.standing ≡ number_standing A y.table
-  pub verdict : d.replaces ≡ start_stands A y.table
-  pub run : IsRun A x strikes d y
+  pub swept : o.swept ≡ (decision A x strikes).made
+  pub counted : o.standing ≡ number_standing A y.table
+  pub verdict : o.replaces ≡ start_stands A y.table
+  pub run : IsRun A x strikes o y
   -- and what that means, whatever was proposed
   pub largest : Largest A (standing A y.table)
-  pub decides : Decides d.replaces (Replaces A)
+  pub decides : Decides o.replaces (Replaces A)
   pub accepted : certificate_says A y.table ≡ Ok (certificate A y.table)
 
--- what holds of each outcome; where the opening is refused or memory is wanting, nothing has changed, and it can be wanting only for strikes that are proposed
-abbrev pub Decided : Arena → Position → List Proposal → Result Decision DecideError → Position → Type 0
-Decided A x strikes (Ok d) y = Told A x strikes d y
+-- what holds of each answer; a refused opening is told whether there is memory or not, and where it is refused or memory is wanting, nothing has changed
+abbrev pub Decided : Arena → Position → List Proposal → Result Outcome DecideError → Position → Type 0
+Decided A x strikes (Ok o) y = Told A x strikes o y
 Decided A x strikes (Err (Refused refusal)) y = (opening_refusal A (length x.table) ≡ Some refusal) × (y ≡ x)
-Decided A x strikes (Err NoMemory) y = (1 ≤ length strikes) × (y ≡ x)
+Decided A x strikes (Err NoMemory) y = (opening_refusal A (length x.table) ≡ None) × (y ≡ x)
+
+-- what the list of answers gains: where it is decided what the proposals are answered, else nothing
+abbrev pub proposals_answered : Arena → Position → List Proposal → Result Outcome DecideError → List (Result Grant Refusal)
+proposals_answered A x strikes (Ok o) = answers A (opened A x) (proposals strikes)
+proposals_answered A x strikes (Err error) = []

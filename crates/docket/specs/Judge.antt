@@ -1,4 +1,4 @@
--- Judgements: decisions without proposals, which hand back no list.
+-- Judgements: decisions without proposals, which are lent no list.
 use Rattle.std.specs.Prelude.{◌≡◌, ℕ, Bool, List, [], length, Ok, Err, Result}
 use Rattle.systems.specs.Refused.{if_granted, unless}
 use Rattle.arena.specs.Arena.{Arena}

@@ -1,23 +1,9 @@
-//! What a decision tells.
+//! The error of a decision.
 ghost use Rattle.std.specs.Prelude.{◌≡◌};
 ghost use Rattle.docket.specs.declared.decision.DecideError.TheVariants.{NoMemory, Refused};
 
-use crate::call::Grant;
 use crate::refusal::Refusal;
 use std::alloc::AllocError;
-
-/// What was decided of an exchange.
-#[derive(Drop)]
-pub struct Decision {
-    /// The answer to each strike that was proposed.
-    pub answers: Vec<Result<Grant, Refusal>>,
-    /// How many strikes the sweeps made.
-    pub swept: u32,
-    /// How many pairs stand in the end.
-    pub standing: u32,
-    /// Whether the new system replaces the old.
-    pub replaces: bool,
-}
 
 /// Why nothing was decided.
 // Beside `DescribeError` of `description`, and no generic error for both: what is refused is of another type, and contracts name the cases.
@@ -25,7 +11,7 @@ pub struct Decision {
 pub enum DecideError {
     /// The opening is refused.
     Refused(Refusal),
-    /// There was no memory for the calls and their answers.
+    /// There was no room for the answers, and no memory to make it.
     NoMemory,
 }
 

@@ -1,4 +1,4 @@
-//! Dockets: which states of a new system can stand in for which states of an old one.
+//! Dockets: they strike the pairs of an old and a new state that cannot stand, and decide by the pairs that are left.
 #![tactic(auto)]
 
 mod call;
@@ -13,7 +13,7 @@ mod table;
 
 pub use call::{Call, Grant};
 pub use certificate::{Certificate, CertificateFault, check_certificate};
-pub use decision::{DecideError, Decision};
+pub use decision::DecideError;
 pub use docket::Docket;
 pub use fit::check_opening;
 pub use outcome::Outcome;

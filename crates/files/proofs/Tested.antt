@@ -1,15 +1,14 @@
 -- What a file without a fault is known to hold.
 use Rattle.std.proofs.Common.{◌≡◌, ℕ, ◌+◌, ◌-◌, ◌<◌, ◌≤◌, cond, ltb, List, Some, None, sym, refl, ap, subst, arith}
 use Rattle.std.proofs.lemmas.Bool.Decides.{nat_tests}
-use Rattle.std.proofs.lemmas.Bool.{le-ltb}
+use Rattle.std.proofs.lemmas.Bool.{le-ltb, lt-ltb}
 use Rattle.systems.specs.Bounded.{between, or_else}
 use Rattle.systems.specs.Layout.{words_taken}
 use Rattle.systems.proofs.Bounded.{or_else_none, first_below_none_all, first_below_none_from}
 use Rattle.files.specs.Sequence.{value_at, skip}
-use Rattle.files.specs.SystemFile.{unread, refused, fault, states_allowed, channels_allowed, moves_allowed, next_allowed, controller_place, environment_place, next_place, next_numbers, readings_fault, next_fault, row_fault, row_start, rows_fault, states_at, channels_place, channels_at, rows_place, row_at, file_words, file_fault, file_parts}
+use Rattle.files.specs.SystemFile.{unread, refused, fault, states_allowed, channels_allowed, moves_allowed, next_allowed, controller_place, environment_place, next_place, next_numbers, readings_fault, next_fault, row_fault, row_start, rows_fault, states_at, channels_place, channels_at, rows_place, row_at, file_words, file_fault, file_parts, too_short}
 use Rattle.files.specs.declared.check.Allowed.{Allowed}
 use Rattle.files.specs.declared.check.TestedFile.{TestedFile}
-use Rattle.files.specs.declared.fault.Reason.TheVariants.{TooShort}
 
 -- a number that is read and allowed
 pub record Fits (bytes : List ℕ) (place w least most : ℕ) : Type 0 where
@@ -59,7 +58,7 @@ rows_tested bytes n c start h w l =
 pub file_tested : (bytes : List ℕ) (place room : ℕ) → file_fault bytes place room ≡ None → FileTested bytes place room
 file_tested bytes place room h =
     let channels = refused bytes (channels_place bytes place) 0 channels_allowed in
-    let memory = cond (ltb room (file_words bytes place)) (Some (fault TooShort (channels_place bytes place) 0)) None in
+    let memory = cond (ltb room (file_words bytes place)) (Some (too_short (channels_place bytes place))) None in
     let rows = rows_fault bytes (states_at bytes place) (channels_at bytes place) (rows_place bytes place) in
     let first = or_else_none (refused bytes place 0 states_allowed) (or_else channels (or_else memory rows)) h in
     let second = or_else_none channels (or_else memory rows) first.1 in
@@ -103,6 +102,17 @@ pub fault_elsewhere : (bytes : List ℕ) (place room other : ℕ) → file_fault
 fault_elsewhere bytes place room other none enough =
     let ok = file_tested bytes place room none in
     file_fault_from bytes place other (record { states = ok.states; channels = ok.channels; room_enough = enough; rows = ok.rows })
+
+-- and just that it is short of words where there is less
+pub fault_of_few_words : (bytes : List ℕ) (place room other : ℕ) → file_fault bytes place room ≡ None → other < file_words bytes place → file_fault bytes place other ≡ Some (too_short (channels_place bytes place))
+fault_of_few_words bytes place room other none few =
+    let ok = file_tested bytes place room none in
+    rw (
+      refused_from bytes place 0 states_allowed ok.states,
+      refused_from bytes (channels_place bytes place) 0 channels_allowed ok.channels,
+      lt-ltb other (file_words bytes place) few,
+    )
+    refl
 
 -- the words that its system takes fit the room
 pub fits_the_room : (bytes : List ℕ) (place room : ℕ) → file_fault bytes place room ≡ None → file_words bytes place ≤ room

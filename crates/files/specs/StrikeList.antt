@@ -2,10 +2,10 @@
 use Prim.Native.Char.{code}
 use Rattle.std.specs.Prelude.{ℕ, ◌+◌, cond, ◌==◌, List, length, take, drop, Some, None, Ok, Err, Option, Result, nat_lt, slice_index, option_map}
 use Rattle.std.specs.Result.{result_err}
+use Rattle.codec.specs.Number.{number_refusal}
 use Rattle.codec.specs.declared.number.NumberFault.TheVariants.{Ends}
 use Rattle.systems.specs.Bounded.{or_else, first_below}
 use Rattle.systems.specs.Refused.{unless}
-use Rattle.files.specs.Refusal.{number_refusal}
 use Rattle.files.specs.Sequence.{number_at, value_at, after, skip, nth}
 use Rattle.files.specs.declared.list_fault.ListReason.{ListReason}
 use Rattle.files.specs.declared.list_fault.ListReason.TheVariants.{Letter, Number, TextTooLong}

@@ -1,4 +1,5 @@
--- A system file: the numbers n, c, and state by state the c readings, p, q and the p * q next states, the environment's move fastest.
+-- A system file: n states of c channels, and then each state's row: its readings, the moves of either side, p and q,
+-- and a next state for each pair of moves, the environment's move fastest.
 use Rattle.std.specs.Prelude.{ℕ, zero, suc, ◌+◌, ◌-◌, ◌*◌, ◌≤◌, cond, ◌&&◌, List, Some, None, Ok, Err, Option, Result, nat_lt}
 use Rattle.codec.specs.Filing.{unfiled}
 use Rattle.codec.specs.declared.number.NumberFault.{NumberFault}
@@ -122,18 +123,23 @@ row_at bytes place w = row_start bytes (channels_at bytes place) (rows_place byt
 abbrev pub file_words : List ℕ → ℕ → ℕ
 file_words bytes place = words_taken (states_at bytes place) (channels_at bytes place)
 
+-- the fault of a file for whose system there are too few words, by where c begins
+abbrev pub too_short : ℕ → ReadFault
+too_short place = fault TooShort place 0
+
 -- the first fault of a file; room is how many words there are for its system
 abbrev pub file_fault : List ℕ → ℕ → ℕ → Option ReadFault
 file_fault bytes place room =
     or_else (refused bytes place 0 states_allowed)
     (or_else (refused bytes (channels_place bytes place) 0 channels_allowed)
-    (or_else (cond (nat_lt room (file_words bytes place)) (Some (fault TooShort (channels_place bytes place) 0)) None)
+    (or_else (cond (nat_lt room (file_words bytes place)) (Some (too_short (channels_place bytes place))) None)
     (rows_fault bytes (states_at bytes place) (channels_at bytes place) (rows_place bytes place))))
 
 -- the parts of a file that has no fault
 abbrev pub file_parts : List ℕ → ℕ → TestedFile
 file_parts bytes place = record {
   sizes = record { states = states_at bytes place; channels = channels_at bytes place };
+  channels = channels_place bytes place;
   words = file_words bytes place;
   start = rows_place bytes place;
   end = row_at bytes place (states_at bytes place);

@@ -10,6 +10,13 @@ use Rattle.files.specs.SystemFile.{described, file_fault, file_read}
 use Rattle.files.specs.declared.system_write.SystemWriteFault.{SystemWriteFault}
 use Rattle.files.specs.declared.system_write.SystemWriteFault.TheVariants.{States, Channels, Moves, TooFewBytes}
 
+-- the number of each reason why a system is not written
+abbrev pub system_write_refusal : SystemWriteFault → ℕ
+system_write_refusal States = 18
+system_write_refusal Channels = 19
+system_write_refusal Moves = 21
+system_write_refusal TooFewBytes = 23
+
 -- numbers, each in the fewest bytes, one behind the other
 abbrev pub spelled : List ℕ → List ℕ
 spelled numbers = flat_map encoded numbers

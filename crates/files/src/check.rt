@@ -2,7 +2,7 @@
 ghost use Rattle.std.specs.Prelude.{◌≡◌, OnOk};
 ghost use Rattle.files.specs.Answer.{Unless};
 ghost use Rattle.files.specs.Sequence.{value_at, after, skip};
-ghost use Rattle.files.specs.SystemFile.{unread, refused, next_allowed, readings_fault, next_fault, row_fault, row_end, row_start, rows_fault, file_fault, file_parts};
+ghost use Rattle.files.specs.SystemFile.{unread, refused, next_allowed, readings_fault, next_fault, row_fault, row_end, row_start, rows_fault, file_fault, file_parts, too_short};
 
 use crate::fault::{ReadFault, Reason};
 use crate::sequence::Reader;
@@ -147,12 +147,25 @@ fn check_rows(reader: &mut Reader, sizes: Sizes) -> Result<(), ReadFault>
 #[derive(Clone, Copy)]
 pub(crate) struct TestedFile {
     pub(crate) sizes: Sizes,
+    /// Where its number of channels begins.
+    pub(crate) channels: usize,
     /// How many words its system takes.
     pub(crate) words: usize,
     /// Where its rows begin.
     pub(crate) start: usize,
     /// The place behind it.
     pub(crate) end: usize,
+}
+
+/// The fault of a file whose system takes more words than there are, told at its number of channels.
+pub(crate) fn too_short(channels: usize) -> ReadFault
+    ensures { result ≡ too_short channels }
+{
+    ReadFault {
+        reason: Reason::TooShort,
+        place: channels,
+        state: 0,
+    }
 }
 
 /// The parts of the file that begins at the place, where there are `room` words for its system.
@@ -165,17 +178,14 @@ pub(crate) fn check_file(bytes: &[u8], place: usize, room: usize) -> Result<Test
     let channels = allowed_number(&mut reader, 0, CHANNELS_ALLOWED)?;
     let words = row_place(channels, states);
     if room < words {
-        return Err(ReadFault {
-            reason: Reason::TooShort,
-            place: behind_states,
-            state: 0,
-        });
+        return Err(too_short(behind_states));
     }
     let start = reader.place();
     let sizes = Sizes { states, channels };
     check_rows(&mut reader, sizes)?;
     Ok(TestedFile {
         sizes,
+        channels: behind_states,
         words,
         start,
         end: reader.place(),

@@ -1,9 +1,8 @@
 //! Why a system file is refused.
-ghost use Rattle.std.specs.Prelude.{◌≡◌, Some};
-ghost use Rattle.files.specs.Refusal.{refusal, fault_text};
+ghost use Rattle.std.specs.Prelude.{◌≡◌};
+ghost use Rattle.files.specs.Refusal.{refusal};
 
 use codec::NumberFault;
-use std::fmt;
 use systems::LayoutFault;
 
 /// Why a number of a system file is refused.
@@ -41,23 +40,12 @@ impl Reason {
         ensures { result ≡ refusal self.now }
     {
         match self {
-            Reason::Number(fault) => *fault as u8,
-            Reason::States => LayoutFault::States as u8,
-            Reason::Channels => LayoutFault::Channels as u8,
-            Reason::TooShort => LayoutFault::TooShort as u8,
-            Reason::Moves => LayoutFault::Moves as u8,
-            Reason::NextState => LayoutFault::NextState as u8,
+            Reason::Number(fault) => fault.number(),
+            Reason::States => LayoutFault::States.number(),
+            Reason::Channels => LayoutFault::Channels.number(),
+            Reason::TooShort => LayoutFault::TooShort.number(),
+            Reason::Moves => LayoutFault::Moves.number(),
+            Reason::NextState => LayoutFault::NextState.number(),
         }
-    }
-}
-
-impl fmt::Display for ReadFault {
-    ghost output = { λ x. Some (fault_text x) };
-
-    fn fmt<W: fmt::Write>(&self, f: &mut fmt::Formatter<W>) -> fmt::Result {
-        let number = self.reason.number();
-        let place = self.place;
-        let state = self.state;
-        write!(f, "fault {number} at byte {place} in state {state}")
     }
 }

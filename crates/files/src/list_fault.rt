@@ -36,7 +36,7 @@ impl ListReason {
     {
         match self {
             ListReason::Letter => LETTER,
-            ListReason::Number(fault) => *fault as u8,
+            ListReason::Number(fault) => fault.number(),
             ListReason::TextTooLong => TEXT_TOO_LONG,
         }
     }

@@ -1,12 +1,13 @@
 //! A system file that has been tested.
-ghost use Rattle.std.specs.Prelude.{◌≡◌, ◌+◌, ◌-◌, ◌≤◌, length, drop, Some, None, MatchResult, IfOk, is_some, OnSome, IfSome, nat_le, if◌then◌else◌};
+ghost use Rattle.std.specs.Prelude.{◌≡◌, ◌-◌, ◌≤◌, length, drop, Some, None, MatchResult, IfOk, OnOk, is_ok, if◌then◌else◌};
 ghost use Rattle.systems.specs.Layout.{stored};
+ghost use Rattle.systems.specs.Refused.{unless};
 ghost use Rattle.files.specs.Few.{Few};
 ghost use Rattle.files.specs.Flattening.{ReadsAsFiled};
 ghost use Rattle.files.specs.SystemFile.{described, file_fault, file_parts, file_read, file_words};
 ghost use Rattle.files.specs.Words.{put_at, system_words};
 
-use crate::check::{TestedFile, check_file};
+use crate::check::{TestedFile, check_file, too_short};
 use crate::fault::ReadFault;
 use crate::rows::write_words;
 use crate::sequence::Reader;
@@ -67,17 +68,18 @@ impl<'a> SystemFile<'a> {
 
     /// Lays out the system in the words from `at` on, and tells how many it takes, and where the file ends.
     ///
-    /// Where there are too few, no word changes.
-    pub fn lay_out(&self, memory: &mut [u16], at: usize) -> Option<SystemRead>
-        ensures answer { result ≡ (if nat_le (file_words self.now.bytes.now self.now.place) (length memory.old - at) then Some (file_read self.now.bytes.now self.now.place) else None) }
-        ensures words { memory.new ≡ (if is_some result then put_at memory.old at (system_words (described self.now.bytes.now self.now.place)) else memory.old) }
-        ensures system { OnSome result (stored (drop at memory.new) ≡ described self.now.bytes.now self.now.place) }
-        ensures filed { IfSome result (λ read. ReadsAsFiled self.now.bytes.now self.now.place read.end (drop at memory.new)) }
+    /// Where there are too few, that is the fault, as of a read, and no word changes.
+    #[tactic(auto, using(crate::proofs::Tested::fault_elsewhere, crate::proofs::Tested::fault_of_few_words))]
+    pub fn lay_out(&self, memory: &mut [u16], at: usize) -> Result<SystemRead, ReadFault>
+        ensures answer { result ≡ unless (file_fault self.now.bytes.now self.now.place (length memory.old - at)) (file_read self.now.bytes.now self.now.place) }
+        ensures words { memory.new ≡ (if is_ok result then put_at memory.old at (system_words (described self.now.bytes.now self.now.place)) else memory.old) }
+        ensures system { OnOk result (stored (drop at memory.new) ≡ described self.now.bytes.now self.now.place) }
+        ensures filed { IfOk result (λ read. ReadsAsFiled self.now.bytes.now self.now.place read.end (drop at memory.new)) }
     {
         if memory.len().saturating_sub(at) < self.parts.words {
-            return None;
+            return Err(too_short(self.parts.channels));
         }
-        Some(self.put(memory, at))
+        Ok(self.put(memory, at))
     }
 
     /// Lays out the system in the words from `at` on, where there is room.
@@ -94,6 +96,7 @@ impl<'a> SystemFile<'a> {
             words,
             start,
             end,
+            ..
         } = self.parts;
         write_words(
             &mut memory[at..at + words],

@@ -1,7 +1,7 @@
 //! Writing a system as the bytes of its file.
 ghost use Rattle.std.specs.Prelude.{◌≡◌, ◌≤◌, ◌++◌, length, drop, is_ok, IfOk, if◌then◌else◌};
 ghost use Rattle.systems.specs.Refused.{unless};
-ghost use Rattle.files.specs.SystemWrite.{system_bytes, write_fault, ReadsBack};
+ghost use Rattle.files.specs.SystemWrite.{system_bytes, system_write_refusal, write_fault, ReadsBack};
 
 use crate::small::SmallSystem;
 use systems::System;
@@ -18,6 +18,16 @@ pub enum SystemWriteFault {
     Moves = 21,
     /// There are fewer bytes than its file takes.
     TooFewBytes = 23,
+}
+
+impl SystemWriteFault {
+    /// The number of the refusal.
+    pub fn number(self) -> u8
+        ensures { result ≡ system_write_refusal self }
+    {
+        // a cast, which gives the numbers above
+        self as u8
+    }
 }
 
 impl<S: System> SmallSystem<'_, S> {

@@ -7,10 +7,10 @@ use Rattle.docket.specs.declared.certificate.CertificateFault.{CertificateFault}
 use Rattle.docket.specs.declared.certificate.CertificateFault.TheVariants.{Refused, Unfounded, Loose}
 use Rattle.docket.specs.declared.outcome.Outcome.{Outcome}
 use Rattle.files.specs.Refusal.{refusal}
+use Rattle.files.specs.SystemWrite.{system_write_refusal}
 use Rattle.files.specs.declared.fault.ReadFault.{ReadFault}
 use Rattle.files.specs.declared.system_read.SystemRead.{SystemRead}
 use Rattle.files.specs.declared.system_write.SystemWriteFault.{SystemWriteFault}
-use Rattle.files.specs.declared.system_write.SystemWriteFault.TheVariants.{States, Channels, Moves, TooFewBytes}
 use Rattle.hosting.specs.Fault.{files_fault_number}
 use Rattle.hosting.specs.declared.fault.CheckFault.{CheckFault}
 use Rattle.hosting.specs.declared.fault.CheckFault.TheVariants.{Files, Table}
@@ -70,13 +70,6 @@ abbrev pub check_refusal : CheckFault → Refusal
 check_refusal (Files fault) = files_refusal fault
 check_refusal (Table fault) = table_refusal fault
 
--- the number of each reason not to write a system
-abbrev pub write_number : SystemWriteFault → ℕ
-write_number States = 18
-write_number Channels = 19
-write_number Moves = 21
-write_number TooFewBytes = 23
-
 -- what crosses to C of a read
 abbrev pub read_of : Result SystemRead ReadFault → Read
 read_of (Ok read) = record { refusal = granted; words = read.words; end = read.end }
@@ -85,7 +78,7 @@ read_of (Err fault) = record { refusal = file_refusal File fault; words = 0; end
 -- of a write
 abbrev pub written_of : Result ℕ SystemWriteFault → Written
 written_of (Ok count) = record { refusal = granted; bytes = count }
-written_of (Err fault) = record { refusal = about System (write_number fault); bytes = 0 }
+written_of (Err fault) = record { refusal = about System (system_write_refusal fault); bytes = 0 }
 
 -- of a decision
 abbrev pub decision_of : Result Outcome FilesFault → Decision

@@ -102,7 +102,7 @@ impl Written {
                 bytes,
             },
             Err(fault) => Written {
-                refusal: about(Item::System, fault as u8),
+                refusal: about(Item::System, fault.number()),
                 bytes: 0,
             },
         }

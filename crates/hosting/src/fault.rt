@@ -27,7 +27,7 @@ impl FilesFault {
         ensures { result ≡ files_fault_number self.now }
     {
         match self {
-            FilesFault::Tolerance(_) => ToleranceFault::TooWide as u8,
+            FilesFault::Tolerance(_) => ToleranceFault::TooWide.number(),
             FilesFault::OldFile(fault) | FilesFault::NewFile(fault) => fault.reason.number(),
             FilesFault::Exchange(refusal) => refusal.number(),
         }

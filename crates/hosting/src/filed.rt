@@ -56,7 +56,7 @@ fn lay_out(file: &SystemFile<'_>, words: &mut [u16])
     ensures words { words.new ≡ laid_out file.now.bytes.now words.old }
     ensures holds { Holds (described file.now.bytes.now 0) words.new }
 {
-    let Some(_) = file.lay_out(words, 0) else {
+    let Ok(_) = file.lay_out(words, 0) else {
         unreachable()
     };
 }
@@ -75,7 +75,7 @@ impl<'a> FiledExchange<'a> {
         ensures answer { MatchResult result (λ _. first_too_wide self.now.tolerances ≡ None) (λ fault. option_map (λ channel. Tolerance channel) (first_too_wide self.now.tolerances) ≡ Some fault) }
         ensures likeness { IfOk result (λ within. within.tolerances ≡ self.now.tolerances) }
     {
-        Within::per_channel(self.tolerances).map_err(FilesFault::Tolerance)
+        Within::per_channel(self.tolerances).map_err(|fault| FilesFault::Tolerance(fault.channel))
     }
 
     /// Tests the tolerances, the files, and whether they serve together.

@@ -16,7 +16,7 @@ fn likeness(tolerances: &Tolerances) -> Result<Within, FilesFault>
     ensures fault { MatchResult result (λ _. first_too_wide tolerances.now.channels ≡ None) (λ fault. option_map (λ channel. Tolerance channel) (first_too_wide tolerances.now.channels) ≡ Some fault) }
     ensures likeness { IfOk result (λ within. within.tolerances ≡ tolerances.now.channels) }
 {
-    Within::per_channel(tolerances.channels).map_err(FilesFault::Tolerance)
+    Within::per_channel(tolerances.channels).map_err(|fault| FilesFault::Tolerance(fault.channel))
 }
 
 /// Decides whether the new system replaces the old.

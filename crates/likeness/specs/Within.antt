@@ -4,6 +4,11 @@ use Rattle.systems.specs.Meaning.{Reading}
 use Rattle.likeness.specs.declared.within.ToleranceFault.{ToleranceFault}
 use Rattle.likeness.specs.declared.within.ToleranceFault.TheVariants.{NoChannel, TooWide}
 
+-- the number of each refusal of a tolerance
+abbrev pub tolerance_refusal : ToleranceFault → ℕ
+tolerance_refusal NoChannel = 19
+tolerance_refusal TooWide = 27
+
 -- each of the eight tolerances is at most 1,000
 abbrev pub Mild : List ℕ → Type 0
 Mild ts = (k : ℕ) → k < 8 → slice_index ts k ≤ 1000

@@ -11,4 +11,4 @@ mod within;
 pub use exact::Exact;
 pub use likeness::Likeness;
 pub use sea_state::{SeaState, sea_state_class};
-pub use within::{MAX_TOLERANCE, TOLERANCE_CHANNELS, ToleranceFault, Within};
+pub use within::{MAX_TOLERANCE, TOLERANCE_CHANNELS, ToleranceFault, TooWideOn, Within};

@@ -38,12 +38,6 @@ fn refusals_come_in_order(rt: HostRuntime) {
 }
 
 #[test]
-fn refusals_have_their_numbers(rt: HostRuntime) {
-    assert_eq!(rt; ToleranceFault::NoChannel as u8, 19);
-    assert_eq!(rt; ToleranceFault::TooWide as u8, 27);
-}
-
-#[test]
 fn class_ends_belong_to_their_class(rt: HostRuntime) {
     assert_eq!(rt; sea_state_class(-5), 0);
     assert_eq!(rt; sea_state_class(0), 0);

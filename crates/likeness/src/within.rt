@@ -1,6 +1,6 @@
 //! The likeness of readings that differ little.
 ghost use Rattle.std.specs.Prelude.{◌≡◌, ◌<◌, ◌≤◌, replicate, Some, None, IfErr, IfOk, MatchResult};
-ghost use Rattle.likeness.specs.Within.{Mild, first_too_wide, set_answer, tolerance_of, tolerances_after, within};
+ghost use Rattle.likeness.specs.Within.{Mild, first_too_wide, set_answer, tolerance_of, tolerance_refusal, tolerances_after, within};
 ghost use Rattle.likeness.specs.declared.within.ToleranceFault.TheVariants.{TooWide};
 
 use crate::likeness::Likeness;
@@ -18,6 +18,32 @@ pub enum ToleranceFault {
     NoChannel = 19,
     /// The tolerance is wider than the widest.
     TooWide = 27,
+}
+
+impl ToleranceFault {
+    /// The number of the refusal.
+    pub fn number(self) -> u8
+        ensures { result ≡ tolerance_refusal self }
+    {
+        // a cast, which gives the numbers above
+        self as u8
+    }
+}
+
+/// Why tolerances are not set all at once.
+#[derive(Clone, Copy, Debug, PartialEq, Eq)]
+pub struct TooWideOn {
+    /// The first channel whose tolerance is wider than the widest.
+    pub channel: usize,
+}
+
+impl TooWideOn {
+    /// The number of the refusal.
+    pub fn number(self) -> u8
+        ensures { result ≡ tolerance_refusal TooWide }
+    {
+        ToleranceFault::TooWide.number()
+    }
 }
 
 /// On each channel, readings are alike that differ by at most the tolerance of the channel.
@@ -74,13 +100,13 @@ impl Within {
         })
     }
 
-    /// These tolerances of the channels that can have one; where one is too wide, the first channel that has such.
-    pub fn per_channel(tolerances: [u16; TOLERANCE_CHANNELS]) -> Result<Within, usize>
+    /// These tolerances of the channels that can have one; refused where one is too wide.
+    pub fn per_channel(tolerances: [u16; TOLERANCE_CHANNELS]) -> Result<Within, TooWideOn>
         ensures granted { IfOk result (λ within. within.tolerances ≡ tolerances) }
-        ensures answer { MatchResult result (λ _. first_too_wide tolerances ≡ None) (λ channel. first_too_wide tolerances ≡ Some channel) }
+        ensures answer { MatchResult result (λ _. first_too_wide tolerances ≡ None) (λ fault. first_too_wide tolerances ≡ Some fault.channel) }
     {
         match first_too_wide(&tolerances) {
-            Some(channel) => Err(channel),
+            Some(channel) => Err(TooWideOn { channel }),
             None => Ok(Within { tolerances }),
         }
     }

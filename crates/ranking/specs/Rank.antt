@@ -8,7 +8,7 @@ use Rattle.docket.specs.Certificate.{certificate, certificate_says}
 use Rattle.docket.specs.Refusals.{opening_refusal}
 use Rattle.docket.specs.declared.refusal.Refusal.{Refusal}
 
--- The rule for one pair: 1 if it is unlike, else the least number from 2 on such that some move refutes it when only entries from 1 to below that number count as struck, or 0 if there is none.
+-- The rule for one pair: an unlike pair has rank 1; any other has the least k from 2 on at which a move refutes it by entries from 1 to k - 1 alone, and rank 0 where no k will do.
 pub record RankRule (A : Arena) (table : List ℕ) (w v : ℕ) : Type 0 where
   pub unlike : A.alike w v ≡ false → entry A table w v ≡ 1
   pub reached : A.alike w v ≡ true → (entry A table w v ≢ 0) → (2 ≤ entry A table w v) × (refuted A (struck A table (Some (entry A table w v))) w v ≡ true)

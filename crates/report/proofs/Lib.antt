@@ -1,3 +1,5 @@
+pub mod Front
 pub mod Listed
+pub mod Part
 pub mod Told
 pub mod Written

@@ -5,7 +5,7 @@ use Rattle.std.specs.Result.{result_err, result_unwrap_or}
 use Rattle.docket.specs.declared.strike.Strike.{Strike}
 use Rattle.files.specs.StrikeList.{Answer, record_at}
 use Rattle.files.specs.declared.record.Record.{Record}
-use Rattle.report.specs.Input.{Listed, and_behind, ends_with, in_front, kept, listed, listed_from}
+use Rattle.report.specs.Input.{Listed, and_behind, ends_with, in_front, listed, listed_from}
 
 -- What a list holds from a place on, read with room for all records that there can be.
 pub record HoldsFrom (input : List ℕ) (place : ℕ) (left : Listed) : Type 0 where
@@ -52,7 +52,12 @@ module _ (input : List ℕ) (place : ℕ) (left : Listed) where
   pub left_end : (answer : Answer) → HoldsFrom input place left → record_at input place ≡ answer → result_unwrap_or answer None ≡ None → left ≡ ends_with (result_err answer)
   left_end answer holds = end_most answer holds.most holds.enough holds.is
 
+-- a record that is told of was read
+pub record_found : (answer : Answer) (read : Record × ℕ) → result_unwrap_or answer None ≡ Some read → answer ≡ Ok (Some read)
+record_found (Ok found) read is = ap (λ x. Ok x) is
+record_found (Err fault) read is = absurd cc
+
 -- a strike goes behind those that were found before it
-pub kept_in_front : (found : List Strike) (strike : Option Strike) (rest : List Strike) → kept found strike ++ rest ≡ found ++ cons_option strike rest
-kept_in_front found None rest = refl
+pub kept_in_front : (found : List Strike) (strike : Option Strike) (rest : List Strike) → (found ++ cons_option strike []) ++ rest ≡ found ++ cons_option strike rest
+kept_in_front found None rest = append_assoc found [] rest
 kept_in_front found (Some strike) rest = append_assoc found (strike ∷ []) rest

@@ -1,8 +1,11 @@
--- Why an input is refused: the numbers, and the line.
-use Rattle.std.specs.Prelude.{ℕ, List, ◌++◌, codes, decimal}
+-- Why an input is refused, and the numbers.
+use Rattle.std.specs.Prelude.{ℕ}
 use Rattle.docket.specs.Refusals.{refusal_number}
-use Rattle.files.specs.Refusal.{number_refusal, refusal}
+use Rattle.codec.specs.Number.{number_refusal}
+use Rattle.files.specs.Refusal.{refusal}
 use Rattle.files.specs.StrikeList.{list_refusal}
+use Rattle.likeness.specs.Within.{tolerance_refusal}
+use Rattle.likeness.specs.declared.within.ToleranceFault.TheVariants.{TooWide as WiderThanAny}
 use Rattle.files.specs.declared.fault.ReadFault.{ReadFault}
 use Rattle.files.specs.declared.list_fault.ListFault.{ListFault}
 use Rattle.report.specs.declared.fault.InputFault.{InputFault}
@@ -13,7 +16,7 @@ use Rattle.report.specs.declared.fault.InputReason.TheVariants.{TooLong, Toleran
 abbrev pub input_refusal : InputReason → ℕ
 input_refusal TooLong = 28
 input_refusal (Tolerance fault) = number_refusal fault
-input_refusal TooWide = 27
+input_refusal TooWide = tolerance_refusal WiderThanAny
 input_refusal (System reason) = refusal reason
 input_refusal (OfList reason) = list_refusal reason
 input_refusal (Opening reason) = refusal_number reason
@@ -29,7 +32,3 @@ of_system fault = fault_at (System fault.reason) fault.place
 -- the fault of a strike list
 abbrev pub of_list : ListFault → InputFault
 of_list fault = fault_at (OfList fault.reason) fault.place
-
--- `fault N at P`
-abbrev pub fault_line : InputFault → List ℕ
-fault_line fault = codes "fault " ++ (decimal (input_refusal fault.reason) ++ (codes " at " ++ (decimal fault.place ++ codes "\n")))

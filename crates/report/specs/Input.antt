@@ -1,5 +1,5 @@
 -- What an input holds: a tolerance, the file of the old system, that of the new one, and a list of strikes to its end.
-use Rattle.std.specs.Prelude.{◌≡◌, ℕ, zero, suc, cond, List, [], ◌∷◌, ◌++◌, length, replicate, Some, None, Ok, Err, Option, Result, nat_lt, option_map}
+use Rattle.std.specs.Prelude.{◌≡◌, ℕ, zero, suc, ◌≤◌, cond, List, [], ◌∷◌, length, replicate, Some, None, Ok, Err, Option, Result, nat_lt, option_map}
 use Rattle.std.specs.List.{filter_map}
 use Rattle.std.specs.Result.{result_err}
 use Rattle.systems.specs.Bounded.{or_else}
@@ -8,9 +8,9 @@ use Rattle.arena.specs.declared.cause.Cause.TheVariants.{Sight, Move}
 use Rattle.docket.specs.declared.strike.Strike.{Strike}
 use Rattle.files.specs.Sequence.{number_at, value_at, after}
 use Rattle.files.specs.StrikeList.{record_at}
-use Rattle.files.specs.SystemFile.{described, file_fault, file_read}
-use Rattle.files.specs.Words.{Holds}
+use Rattle.files.specs.SystemFile.{described, file_fault, file_read, file_words}
 use Rattle.files.specs.declared.list_fault.ListFault.{ListFault}
+use Rattle.files.specs.declared.system_file.SystemFile.{SystemFile}
 use Rattle.files.specs.declared.record.Record.{Record}
 use Rattle.files.specs.declared.record.Record.TheVariants.{Sight as SightRecord, Move as MoveRecord, Maker, Remark}
 use Rattle.report.specs.Fault.{fault_at, of_list, of_system}
@@ -56,11 +56,6 @@ strike_of (SightRecord pair) = Some (record { pair = pair; cause = Sight })
 strike_of (MoveRecord pair a) = Some (record { pair = pair; cause = Move a })
 strike_of (Maker text) = None
 strike_of (Remark text) = None
-
--- strikes with another behind them, if there is one
-abbrev pub kept : List Strike → Option Strike → List Strike
-kept strikes None = strikes
-kept strikes (Some strike) = strikes ++ (strike ∷ [])
 
 -- What a list holds: its records up to the first fault, and that fault.
 pub record Listed : Type 0 where
@@ -125,10 +120,17 @@ input_fault input =
     (or_else (system_fault input (new_place input))
     (list_fault input (list_place input)))))
 
+-- A file that was tested: the one that starts at a place of the input, whose system fits the words that there are for it.
+pub record IsFile (input : List ℕ) (start : ℕ) (file : SystemFile) : Type 0 where
+  pub bytes : file.bytes.now ≡ input
+  pub place : file.place ≡ start
+  pub fits : file_words input start ≤ system_room
+
 -- What was read of an input.
 pub record IsRead (input : List ℕ) (read : Input) : Type 0 where
+  pub bytes : read.bytes.now ≡ input
+  pub short : length input ≤ most_bytes
   pub tolerances : read.likeness.tolerances ≡ replicate 8 (tolerance input)
-  pub old : Holds (old_system input) read.old_words.items
-  pub new : Holds (new_system input) read.new_words.items
-  pub strikes : read.strikes.items ≡ strikes input
+  pub old : IsFile input (old_place input) read.old
+  pub new : IsFile input (new_place input) read.new
   pub list_place : read.list_place ≡ list_place input

@@ -1,6 +1,7 @@
 pub mod Answer
-pub mod Failure
 pub mod Fault
 pub mod Input
 pub mod Lines
 pub mod Output
+pub mod Program
+pub mod Room

@@ -1,71 +1,153 @@
 //! From the bytes of an input to what is printed for it.
-ghost use Rattle.std.specs.Prelude.{◌≡◌, List, ℕ, IfOk};
-ghost use Rattle.report.specs.Answer.{Unless, WantsMemory};
-ghost use Rattle.report.specs.Input.{IsRead, input_fault};
-ghost use Rattle.report.specs.Output.{IsPrinted, IsVerdict, Tells, begun, fault_of, opening_fault, undecided};
+ghost use Rattle.std.specs.Prelude.{◌≡◌, ◌+◌, ◌*◌, ◌≤◌, ◌++◌, [], length, replicate, OnOk, vec_len, vec_capacity};
+ghost use Rattle.files.specs.SystemFile.{described, file_words};
+ghost use Rattle.files.specs.Words.{Holds};
+ghost use Rattle.report.specs.Answer.{UnlessFault};
+ghost use Rattle.report.specs.Input.{IsRead, strikes};
+ghost use Rattle.report.specs.Lines.{outcome_lines, proposal_lines};
+ghost use Rattle.report.specs.Room.{lines_behind, longest_line, most_strikes};
+ghost use Rattle.report.specs.Output.{Tells, answered, fault_of, opening_fault, output};
 
-use crate::error::ReportError;
 use crate::fault::{InputFault, InputReason};
 use crate::input::{Input, read_input};
-use crate::lines::Verdict;
-use arena::Exchange;
-use docket::{DecideError, Decision, Docket};
-use std::alloc::{AllocError, Global};
+use crate::lines::{Line, answer_line, fault_line, standing_line, swept_line, verdict_line};
+use crate::list::read_strikes;
+use crate::memory::{Memory, Work};
+use arena::{Exchange, STANDING};
+use docket::{DecideError, Docket, Grant, Outcome, Refusal, Strike};
+use files::SystemFile;
 use systems::Stored;
 
-/// How many entries the table has: one for each pair of 64 old and 64 new states.
-const TABLE_ROOM: usize = 4_096;
-
-/// A table in which nothing is struck.
-// By itself, so that no proof about deciding has that many zeros in reach.
-#[tactic(auto, unfolding(crate::specs::Output::begun))]
-fn new_table(heap: Global) -> Result<Vec<u32>, AllocError>
-    ensures { IfOk result (λ table. table.items ≡ begun.table) }
+/// Lays out the system of a file in front of words that suffice.
+fn lay_out_in_front(file: &SystemFile<'_>, words: &mut [u16])
+    requires { file_words file.now.bytes.now file.now.place ≤ length words.old }
+    ensures { Holds (described file.now.bytes.now file.now.place) words.new }
 {
-    vec![in heap; 0u32; TABLE_ROOM]
+    let Ok(_) = file.lay_out(words, 0) else {
+        unreachable()
+    };
 }
 
-/// Why there is no verdict where nothing was decided of a list that begins at the place.
-fn undecided(why: DecideError, list_place: usize) -> ReportError
-    ensures { result ≡ undecided why list_place }
+/// The same in the words of a list.
+// By itself, as `clear`: a proof about `decide` then knows the items of the list by a short term.
+fn lay_out(file: &SystemFile<'_>, words: &mut Vec<u16>)
+    requires { file_words file.now.bytes.now file.now.place ≤ vec_len words.old }
+    ensures held { Holds (described file.now.bytes.now file.now.place) words.new.items }
+    ensures len { vec_len words.new ≡ vec_len words.old }
 {
-    match why {
-        DecideError::Refused(refusal) => ReportError::Refused(InputFault {
+    lay_out_in_front(file, words);
+}
+
+/// Sets every entry to standing.
+fn clear(table: &mut Vec<u32>)
+    ensures entries { table.new.items ≡ replicate (vec_len table.old) 0 }
+    ensures len { vec_len table.new ≡ vec_len table.old }
+{
+    table.fill(STANDING);
+}
+
+/// Decides what was read of an input.
+fn decide(input: &Input<'_>, work: &mut Work) -> Result<Outcome, InputFault>
+    requires { IsRead input.now.bytes.now input.now }
+    ensures told { UnlessFault (opening_fault input.now.bytes.now) (Tells input.now.bytes.now) result }
+    ensures strikes { OnOk result (work.new.strikes.items ≡ strikes input.now.bytes.now) }
+    ensures answers { OnOk result (work.new.answers.items ≡ answered input.now.bytes.now) }
+    ensures few { OnOk result (vec_len work.new.strikes ≤ most_strikes) }
+{
+    lay_out(&input.old, &mut work.old_words);
+    lay_out(&input.new, &mut work.new_words);
+    work.strikes.clear();
+    read_strikes(input.bytes, input.list_place, &mut work.strikes);
+    work.answers.clear();
+    clear(&mut work.table);
+    let exchange = Exchange {
+        old: &Stored::new(&work.old_words),
+        new: &Stored::new(&work.new_words),
+        likeness: &input.likeness,
+    };
+    match Docket::new().decide(&exchange, &mut work.table, &work.strikes, &mut work.answers) {
+        Ok(outcome) => Ok(outcome),
+        Err(DecideError::Refused(refusal)) => Err(InputFault {
             reason: InputReason::Opening(refusal),
-            place: list_place,
+            place: input.list_place,
         }),
-        DecideError::NoMemory => ReportError::NoMemory,
+        // there is room for every answer
+        Err(DecideError::NoMemory) => unreachable!(),
     }
 }
 
-/// Decides what was read of an input, with a table in which nothing is struck.
-fn decide(heap: Global, input: &Input, table: &mut [u32]) -> Result<Decision, ReportError>
-    requires { table.old ≡ begun.table }
-    ensures { (bytes : List ℕ) → IsRead bytes input.now → Unless (opening_fault bytes) (Tells bytes) result }
+/// Reads an input and decides it.
+fn read_and_decide(input: &[u8], work: &mut Work) -> Result<Outcome, InputFault>
+    ensures told { UnlessFault (fault_of input.now) (Tells input.now) result }
+    ensures strikes { OnOk result (work.new.strikes.items ≡ strikes input.now) }
+    ensures answers { OnOk result (work.new.answers.items ≡ answered input.now) }
+    ensures few { OnOk result (vec_len work.new.strikes ≤ most_strikes) }
 {
-    let exchange = Exchange {
-        old: &Stored::new(&input.old_words),
-        new: &Stored::new(&input.new_words),
-        likeness: &input.likeness,
+    let read = read_input(input)?;
+    decide(&read, work)
+}
+
+/// Appends a line where there is room for the longest.
+fn put(lines: &mut Vec<u8>, line: &Line)
+    requires { vec_len lines.old + longest_line ≤ vec_capacity lines.old }
+    ensures items { lines.new.items ≡ lines.old.items ++ line.now.bytes }
+    ensures len { vec_len lines.new ≤ vec_len lines.old + longest_line }
+    ensures capacity { vec_capacity lines.old ≤ vec_capacity lines.new }
+{
+    let Ok(()) = lines.extend_from_slice(line.as_str().as_bytes()) else {
+        unreachable()
     };
-    Docket::new()
-        .decide(heap, &exchange, table, &input.strikes)
-        .map_err(|why| undecided(why, input.list_place))
+}
+
+/// Appends a line for each strike, where there is room.
+fn put_proposals(lines: &mut Vec<u8>, strikes: &[Strike], answers: &[Result<Grant, Refusal>])
+    requires { vec_len lines.old + length strikes.now * longest_line ≤ vec_capacity lines.old }
+    ensures items { lines.new.items ≡ lines.old.items ++ proposal_lines strikes.now answers.now }
+    ensures len { vec_len lines.new ≤ vec_len lines.old + length strikes.now * longest_line }
+    ensures capacity { vec_capacity lines.old ≤ vec_capacity lines.new }
+{
+    for (strike, answer) in strikes.iter().zip(answers) {
+        put(lines, &answer_line(strike, answer));
+    }
+}
+
+/// Appends the lines of what was decided, where there is room.
+fn put_outcome(
+    lines: &mut Vec<u8>,
+    strikes: &[Strike],
+    answers: &[Result<Grant, Refusal>],
+    outcome: &Outcome,
+)
+    requires { vec_len lines.old + (length strikes.now + lines_behind) * longest_line ≤ vec_capacity lines.old }
+    ensures items { lines.new.items ≡ lines.old.items ++ outcome_lines strikes.now answers.now outcome.now }
+    ensures capacity { vec_capacity lines.old ≤ vec_capacity lines.new }
+{
+    put_proposals(lines, strikes, answers);
+    put(lines, &swept_line(outcome.swept));
+    put(lines, &standing_line(outcome.standing));
+    put(lines, &verdict_line(outcome.replaces));
+}
+
+/// The report on an input.
+pub(crate) fn report_in(input: &[u8], work: &mut Work) -> Result<Outcome, InputFault>
+    ensures output { work.new.lines.items ≡ output input.now }
+    ensures answer { UnlessFault (fault_of input.now) (Tells input.now) result }
+{
+    let answer = read_and_decide(input, work);
+    work.lines.clear();
+    match &answer {
+        Ok(outcome) => put_outcome(&mut work.lines, &work.strikes, &work.answers, outcome),
+        Err(fault) => put(&mut work.lines, &fault_line(fault)),
+    }
+    answer
 }
 
 /// Decides a whole input: reads a tolerance for all channels, the file of the old system, that of the new one and a list of strikes, and makes one decision with the strikes as proposals.
 ///
-/// What is printed of the answer, by its `Display` or that of the error, is the whole output. Nothing is decided where any part of the input is refused.
-pub fn report(heap: Global, input: &[u8]) -> Result<Verdict, ReportError>
-    ensures output { IsPrinted input.now result }
-    ensures verdict { Unless (fault_of input.now) (IsVerdict input.now) result }
-    ensures memory { WantsMemory (input_fault input.now) result }
+/// What is to be printed are the lines that the memory has then. Nothing is decided where any part of the input is refused.
+pub fn report(input: &[u8], memory: &mut Memory) -> Result<Outcome, InputFault>
+    ensures output { memory.new.work.lines.items ≡ output input.now }
+    ensures answer { UnlessFault (fault_of input.now) (Tells input.now) result }
 {
-    let read = read_input(heap, input)?;
-    let mut table = new_table(heap)?;
-    let decision = decide(heap, &read, &mut table)?;
-    Ok(Verdict {
-        strikes: read.strikes,
-        decision,
-    })
+    report_in(input, &mut memory.work)
 }

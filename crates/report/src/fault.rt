@@ -1,12 +1,11 @@
 //! Why an input is refused.
-ghost use Rattle.std.specs.Prelude.{◌≡◌, Some};
-ghost use Rattle.report.specs.Fault.{fault_line, input_refusal, of_list, of_system};
+ghost use Rattle.std.specs.Prelude.{◌≡◌};
+ghost use Rattle.report.specs.Fault.{input_refusal, of_list, of_system};
 
 use codec::NumberFault;
 use docket::Refusal;
 use files::{ListFault, ListReason, ReadFault, Reason};
 use likeness::ToleranceFault;
-use std::fmt;
 
 /// Why an item of an input is refused.
 #[derive(Clone, Copy, Debug, PartialEq, Eq)]
@@ -43,22 +42,12 @@ impl InputReason {
     {
         match self {
             InputReason::TooLong => TOO_LONG,
-            InputReason::Tolerance(fault) => *fault as u8,
-            InputReason::TooWide => ToleranceFault::TooWide as u8,
+            InputReason::Tolerance(fault) => fault.number(),
+            InputReason::TooWide => ToleranceFault::TooWide.number(),
             InputReason::System(reason) => reason.number(),
             InputReason::List(reason) => reason.number(),
             InputReason::Opening(refusal) => refusal.number(),
         }
-    }
-}
-
-impl fmt::Display for InputFault {
-    ghost output = { λ x. Some (fault_line x) };
-
-    fn fmt<W: fmt::Write>(&self, f: &mut fmt::Formatter<W>) -> fmt::Result {
-        let number = self.reason.number();
-        let place = self.place;
-        writeln!(f, "fault {number} at {place}")
     }
 }
 

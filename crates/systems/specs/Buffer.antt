@@ -2,8 +2,9 @@
 use Rattle.std.specs.Prelude.{ℕ, ◌+◌, ◌-◌, min, cond, ◌&&◌, pos, ◌==◌, nat_le, nat_lt}
 use Rattle.systems.specs.Meaning.{Meaning, no_question}
 
--- controller moves 0 wait, 1 take and 2 send, environment moves 0 radio up and 1 radio down:
--- take adds one, at most to the capacity, and send with the radio up takes one off, at least to 0; all else keeps the state
+-- where the moves lead: controller move 1, take, fills by one unless the buffer is full;
+-- move 2, send, empties by one if a record is there and the environment has the radio up, move 0;
+-- every other pair of moves, with 0 wait or 1 radio down, leaves the state
 abbrev pub stepped : ℕ → ℕ → ℕ → ℕ → ℕ
 stepped capacity w a b = cond (a == 1) (min (w + 1) capacity) (cond (a == 2 && b == 0) (w - 1) w)
 

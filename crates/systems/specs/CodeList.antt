@@ -10,12 +10,12 @@ use Rattle.systems.specs.declared.code_list.CodeFault.TheVariants.{Full}
 abbrev pub listed : Codes → List CodeEntry
 listed codes = take codes.count codes.entries
 
--- what the first entry whose `from` equals the reading gives, or the reading where there is none
+-- what the entries make of a reading: `to` of the first of them that is from it, and itself where none is
 abbrev pub translated : List CodeEntry → Reading → Reading
 translated [] x = x
 translated (entry ∷ entries) x = cond (same_reading entry.from x) entry.to (translated entries x)
 
--- a reading at or above the cut shows 0
+-- readings below the cut stay, and all others become 0
 abbrev pub below_cut : Reading → Reading → Reading
 below_cut cut x = cond (int_le cut x) (pos 0) x
 
@@ -23,7 +23,7 @@ below_cut cut x = cond (int_le cut x) (pos 0) x
 abbrev pub shown : List CodeEntry → Reading → Reading → Reading
 shown entries cut x = below_cut cut (translated entries x)
 
--- the system with what its channel shows; a question with an argument out of range is answered 0, and is never translated
+-- the system with what its channel shows; the 0 that answers out of range is never translated
 abbrev pub code_list : Meaning → ℕ → List CodeEntry → Reading → Meaning
 code_list m channel entries cut = record {
   states = m.states;
@@ -34,6 +34,10 @@ code_list m channel entries cut = record {
   environment_moves = m.environment_moves;
   next = m.next;
 }
+
+-- the number of the refusal of an entry
+abbrev pub code_refusal : CodeFault → ℕ
+code_refusal Full = 26
 
 -- what adding one more entry answers: there are up to 8
 abbrev pub add_answer : List CodeEntry → Result (Unit {0}) CodeFault

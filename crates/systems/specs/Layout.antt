@@ -67,6 +67,14 @@ move_fits words w a = all_below (environment_word words w) (next_fits words w a)
 abbrev pub next_states_fit : List ℕ → ℕ → Bool
 next_states_fit words w = all_below (controller_word words w) (move_fits words w)
 
+-- the number of each thing that can be wrong
+abbrev pub layout_refusal : LayoutFault → ℕ
+layout_refusal States = 18
+layout_refusal Channels = 19
+layout_refusal TooShort = 20
+layout_refusal Moves = 21
+layout_refusal NextState = 22
+
 -- what is wrong with the row of state w, if anything is
 abbrev pub row_fault : List ℕ → ℕ → Option LayoutFault
 row_fault words w =
@@ -117,7 +125,7 @@ stored words =
       next = λ w a b. cond (nat_lt w n && (nat_lt a (p w) && nat_lt b (q w))) (next_word words w a b) 0;
     }
 
--- the words of the resting system: one state, one channel with reading 0, one move each, next state 0
+-- the words of the resting system: its only state shows 0 on its only channel, and the one move of either side leads back to it
 abbrev pub resting : List ℕ
 resting = 1 ∷ 1 ∷ 32768 ∷ 1 ∷ 1 ∷ replicate 256 0
 

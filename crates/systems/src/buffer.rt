@@ -13,6 +13,11 @@ pub struct Buffer {
     ghost ok: { capacity < 256 },
 }
 
+// What the moves are numbered, also those that no answer below depends on.
+const _: () = prove!(Buffer::WAIT == 0 && Buffer::TAKE == 1 && Buffer::SEND == 2);
+
+const _: () = prove!(Buffer::RADIO_UP == 0 && Buffer::RADIO_DOWN == 1);
+
 impl Buffer {
     // Moves are numbers and no enum, since a system is asked by number.
 

@@ -1,6 +1,6 @@
 //! A list of codes over a system: what a channel shows in place of some readings.
 ghost use Rattle.std.specs.Prelude.{◌≡◌, [], find, option_copied};
-ghost use Rattle.systems.specs.CodeList.{add_answer, added, code_list, listed, shown, translated};
+ghost use Rattle.systems.specs.CodeList.{add_answer, added, code_list, code_refusal, listed, shown, translated};
 ghost use Rattle.systems.specs.Meaning.{same_reading};
 ghost use Rattle.systems.specs.CodeListLaws.{code_list_lawful};
 
@@ -15,6 +15,16 @@ pub const MOST_CODES: usize = 8;
 pub enum CodeFault {
     /// The list has as many entries as it can have.
     Full = 26,
+}
+
+impl CodeFault {
+    /// The number of the refusal.
+    pub fn number(self) -> u8
+        ensures { result ≡ code_refusal self }
+    {
+        // a cast, which gives the number above
+        self as u8
+    }
 }
 
 impl CodeEntry {

@@ -1,6 +1,6 @@
 //! The layout of a stored system in 16-bit words, and its check.
 ghost use Rattle.std.specs.Prelude.{◌≡◌, is_ok, Decides};
-ghost use Rattle.systems.specs.Layout.{layout, LaidOut, row_place, row_words};
+ghost use Rattle.systems.specs.Layout.{layout, layout_refusal, LaidOut, row_place, row_words};
 
 use crate::row::Row;
 
@@ -45,6 +45,16 @@ pub enum LayoutFault {
     Moves = 21,
     /// A next state that is used is not a state.
     NextState = 22,
+}
+
+impl LayoutFault {
+    /// The number of the refusal.
+    pub fn number(self) -> u8
+        ensures { result ≡ layout_refusal self }
+    {
+        // a cast, which gives the numbers above
+        self as u8
+    }
 }
 
 /// How many words the row of a state takes.

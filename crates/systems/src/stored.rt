@@ -14,7 +14,7 @@ const RESTING_WORDS: usize = 261;
 // A cast, since no `From` goes into a constant.
 const ZERO_WORD: u16 = READING_BIAS as u16;
 
-/// The resting system: one state, one channel with reading 0, one move each, next state 0.
+/// The resting system: its only state shows 0 on its only channel, and the one move of either side leads back to it.
 // Written out, since the value of a constant calls nothing.
 #[rattlefmt::skip]
 static RESTING: [u16; RESTING_WORDS] = [

@@ -4,7 +4,7 @@ ghost use Rattle.systems.specs.Meaning.{Meaning, Lawful};
 
 /// A system: states, channels with readings, moves of the controller and of the environment, and where they lead.
 ///
-/// A question with an argument out of range is answered 0.
+/// Out of range every question is answered 0.
 // The two sides' moves are two questions, by a rule of this project.
 pub trait System {
     // the numbers and functions that the answers are

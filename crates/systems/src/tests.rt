@@ -23,7 +23,7 @@ fn refusal(at: usize, word: u16) -> Option<u8>
 {
     let mut words = small();
     words[at] = word;
-    check_layout(&words).err().map(|fault| fault as u8)
+    check_layout(&words).err().map(|fault| fault.number())
 }
 
 #[test]

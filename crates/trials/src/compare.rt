@@ -92,13 +92,23 @@ impl<'a, S: System, T: System, L: Likeness> Case<'a, S, T, L> {
         })
     }
 
-    /// Whether the docket decides as the simulation does, with the strikes proposed.
-    fn is_decided(&mut self, heap: Global, docket: &mut Docket, strikes: &[Strike]) -> bool {
-        docket
-            .decide(heap, &self.exchange, &mut self.table, strikes)
-            .is_ok_and(|decision| {
-                self.has_size(decision.standing) && decision.replaces == self.replaces()
-            })
+    /// Whether the docket decides as the simulation does, with the strikes proposed. Every second list of answers has no room at first.
+    fn is_decided(
+        &mut self,
+        heap: Global,
+        docket: &mut Docket,
+        strikes: &[Strike],
+    ) -> Result<bool, AllocError> {
+        let mut answers = match strikes.len() % 2 {
+            0 => Vec::new(heap),
+            _ => Vec::with_capacity(heap, strikes.len())?,
+        };
+        let decided = docket.decide(&self.exchange, &mut self.table, strikes, &mut answers);
+        Ok(decided.is_ok_and(|outcome| {
+            answers.len() == strikes.len()
+                && self.has_size(outcome.standing)
+                && outcome.replaces == self.replaces()
+        }))
     }
 
     /// Whether the settle check says that the pairs of the simulation stand.
@@ -169,20 +179,24 @@ impl Trials {
     }
 
     /// Decides with strikes drawn, and compares the verdict, the table, the settle check and the certificate check.
-    fn compare_decision<S: System, T: System, L: Likeness>(&mut self, case: &mut Case<S, T, L>) {
+    fn compare_decision<S: System, T: System, L: Likeness>(
+        &mut self,
+        case: &mut Case<S, T, L>,
+    ) -> Result<(), AllocError> {
         let strikes = [
             case.draw_strike(&mut self.generator),
             case.draw_strike(&mut self.generator),
         ];
         let mut docket = Docket::new();
         self.tally
-            .count(case.is_decided(self.heap, &mut docket, &strikes));
+            .count(case.is_decided(self.heap, &mut docket, &strikes)?);
         self.tally.count(case.stand_alike());
         self.tally.count(case.is_settled(&docket));
         self.tally.count(case.is_certified());
         if case.replaces() {
             self.tally.replaced = self.tally.replaced.saturating_add(1);
         }
+        Ok(())
     }
 
     /// Ranks the pairs, and compares the table and the certificate check.
@@ -211,7 +225,7 @@ impl Trials {
         likeness: &L,
     ) -> anyhow::Result<()> {
         let mut case = Case::new(self.heap, Exchange { old, new, likeness })?;
-        self.compare_decision(&mut case);
+        self.compare_decision(&mut case)?;
         self.compare_damaged(&mut case);
         self.compare_ranks(&mut case);
         self.compare_damaged(&mut case);

@@ -1,36 +1,25 @@
 //! Deciding an exchange.
-ghost use Rattle.std.specs.Prelude.{◌≡◌, ◌+◌, ◌≤◌, List, [], length, IfOk, OnErr, vec_len, vec_capacity};
+ghost use Rattle.std.specs.Prelude.{◌≡◌, ◌+◌, ◌≤◌, ◌++◌, length, vec_len, vec_capacity, ◌≢◌, OnErr};
 ghost use Rattle.arena.specs.Table.{pairs, start_stands};
-ghost use Rattle.docket.specs.Decide.{Decided, full_budget, proposals, swept_out};
+ghost use Rattle.docket.specs.Decide.{Decided, full_budget, proposals_answered, swept_out};
 ghost use Rattle.docket.specs.Judge.{Judges, judge_does, judge_says, outcome_of};
 ghost use Rattle.docket.specs.Position.{position};
 ghost use Rattle.docket.specs.Seen.{ledger_view};
 ghost use Rattle.docket.specs.Sweep.{swept};
 ghost use Rattle.docket.specs.Use.{InUse, UnderWay};
-ghost use Rattle.docket.specs.declared.strike.Strike.{Strike};
+ghost use Rattle.docket.specs.declared.decision.DecideError.TheVariants.{NoMemory};
 
 use super::{Docket, Ledger};
-use crate::call::{Call, Grant};
-use crate::decision::{DecideError, Decision};
+use crate::call::Grant;
+use crate::decision::DecideError;
+use crate::fit::check_opening;
 use crate::outcome::Outcome;
 use crate::refusal::Refusal;
 use crate::strike::{Settlement, Strike};
 use arena::{Arena, Board, Gathered, pays_to_gather};
-use std::alloc::{AllocError, Global};
 
 /// The budget of each sweep of a decision.
 const FULL_BUDGET: u32 = 65_535;
-
-/// The strikes that are proposed, as calls.
-fn as_calls(heap: Global, strikes: &[Strike]) -> Result<Vec<Call>, AllocError>
-    ensures calls { IfOk result (λ calls. calls.items ≡ proposals strikes.now) }
-    ensures wanting { OnErr result (1 ≤ length strikes.now) }
-{
-    if strikes.is_empty() {
-        return Ok(Vec::new(heap));
-    }
-    strikes.iter().copied().map(Call::Strike).collect(heap)
-}
 
 /// Whether the new system replaces the old, by a table that is settled.
 fn verdict<A: Arena>(board: &Board<'_, A>) -> bool
@@ -129,51 +118,26 @@ impl Docket {
         Ok(self.conclude(arena, table))
     }
 
-    /// Decides, with the strikes as calls and room for their answers.
-    fn decide_in<A: Arena>(
-        &mut self,
-        arena: &A,
-        table: &mut [u32],
-        calls: &[Call],
-        mut answers: Vec<Result<Grant, Refusal>>,
-    ) -> Result<Decision, DecideError>
-        requires none { answers.items ≡ [] }
-        requires empty { vec_len answers ≡ 0 }
-        requires room { length calls.now ≤ vec_capacity answers }
-        ensures { (strikes : List Strike) → calls.now ≡ proposals strikes → Decided (A.Arena.view arena.now) (position self.old table.old) strikes result (position self.new table.new) }
-    {
-        self.open(arena, table)?;
-        let Ok(()) = self.run(arena, table, calls, &mut answers) else {
-            unreachable()
-        };
-        let Outcome {
-            swept,
-            standing,
-            replaces,
-        } = self.conclude(arena, table);
-        Ok(Decision {
-            answers,
-            swept,
-            standing,
-            replaces,
-        })
-    }
-
     /// Decides whether the new system replaces the old: opens the docket, makes the strikes that are proposed, each granted or refused, sweeps until a sweep makes no strike, and settles.
     ///
-    /// The verdict is whether the pair of the start states is in the largest simulation, whatever was proposed. Where the opening is refused or memory is wanting, nothing has changed; memory can be wanting only for strikes that are proposed.
+    /// The verdict is whether the pair of the start states is in the largest simulation, whatever was proposed. The answers to the proposals are appended to the lent list. Where the opening is refused, or the list has no room for the answers and there is no memory to make it, nothing has changed.
     pub fn decide<A: Arena>(
         &mut self,
-        heap: Global,
         arena: &A,
         table: &mut [u32],
         strikes: &[Strike],
-    ) -> Result<Decision, DecideError>
-        ensures { Decided (A.Arena.view arena.now) (position self.old table.old) strikes.now result (position self.new table.new) }
+        answers: &mut Vec<Result<Grant, Refusal>>,
+    ) -> Result<Outcome, DecideError>
+        ensures decided { Decided (A.Arena.view arena.now) (position self.old table.old) strikes.now result (position self.new table.new) }
+        ensures answered { answers.new.items ≡ answers.old.items ++ proposals_answered (A.Arena.view arena.now) (position self.old table.old) strikes.now result }
+        ensures room { vec_len answers.old + length strikes.now ≤ vec_capacity answers.old → result ≢ Err NoMemory }
+        ensures capacity { vec_capacity answers.old ≤ vec_capacity answers.new }
+        ensures spared { OnErr result (vec_capacity answers.new ≡ vec_capacity answers.old) }
     {
-        let calls = as_calls(heap, strikes)?;
-        let mut answers = Vec::new(heap);
-        answers.reserve(calls.len())?;
-        self.decide_in(arena, table, &calls, answers)
+        check_opening(arena, table.len())?;
+        answers.reserve(strikes.len())?;
+        self.open_fitting(arena, table);
+        self.propose(arena, table, strikes, answers);
+        Ok(self.conclude(arena, table))
     }
 }

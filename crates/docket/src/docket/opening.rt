@@ -1,6 +1,7 @@
 //! Opening a docket.
 ghost use Rattle.std.specs.Prelude.{◌≡◌, ◌≤◌, length};
-ghost use Rattle.docket.specs.Position.{cleared, position};
+ghost use Rattle.arena.specs.Table.{pairs};
+ghost use Rattle.docket.specs.Position.{cleared, opened, position};
 ghost use Rattle.docket.specs.Strikes.{open_does, open_says};
 
 use super::{Docket, Ledger};
@@ -17,6 +18,24 @@ fn clear(table: &mut [u32], entries: usize)
 }
 
 impl Docket {
+    /// Opens the docket for systems and a table that serve. Answers how many pairs there are.
+    pub(super) fn open_fitting<A: Arena>(&mut self, arena: &A, table: &mut [u32]) -> u32
+        requires old { (A.Arena.view arena.now).old_states ≤ 256 }
+        requires new { (A.Arena.view arena.now).new_states ≤ 256 }
+        requires space { pairs (A.Arena.view arena.now) ≤ length table.old }
+        ensures number { result ≡ pairs (A.Arena.view arena.now) }
+        ensures after { position self.new table.new ≡ opened (A.Arena.view arena.now) (position self.old table.old) }
+    {
+        let ledger = Ledger {
+            rows: arena.old_states(),
+            columns: arena.new_states(),
+            count: 0,
+        };
+        clear(table, number_of_pairs(arena));
+        self.ledger = Some(ledger);
+        ledger.pairs()
+    }
+
     /// Opens the docket for the systems: every pair stands, and no strike is counted. Answers how many pairs there are.
     ///
     /// A refused call changes nothing, and entries behind those of the pairs are never touched.
@@ -25,13 +44,6 @@ impl Docket {
         ensures after { position self.new table.new ≡ open_does (A.Arena.view arena.now) (position self.old table.old) }
     {
         check_opening(arena, table.len())?;
-        let ledger = Ledger {
-            rows: arena.old_states(),
-            columns: arena.new_states(),
-            count: 0,
-        };
-        clear(table, number_of_pairs(arena));
-        self.ledger = Some(ledger);
-        Ok(ledger.pairs())
+        Ok(self.open_fitting(arena, table))
     }
 }

@@ -1,5 +1,6 @@
 //! Making calls in a row.
-ghost use Rattle.std.specs.Prelude.{◌≡◌, ◌+◌, ◌≤◌, true, ◌++◌, length, is_ok, vec_len, vec_capacity, MatchResult};
+ghost use Rattle.std.specs.Prelude.{◌≡◌, ◌+◌, ◌≤◌, true, ◌++◌, length, is_ok, vec_len, vec_capacity, MatchResult, OnErr};
+ghost use Rattle.docket.specs.Decide.{proposals};
 ghost use Rattle.docket.specs.Law.{CertificateLaw, RunLaw};
 ghost use Rattle.docket.specs.Position.{position};
 ghost use Rattle.docket.specs.Run.{after, answers as answers_of, does, says};
@@ -7,6 +8,7 @@ ghost use Rattle.docket.specs.Run.{after, answers as answers_of, does, says};
 use super::Docket;
 use crate::call::{Call, Grant};
 use crate::refusal::Refusal;
+use crate::strike::Strike;
 use arena::Arena;
 use std::alloc::AllocError;
 
@@ -49,6 +51,26 @@ impl Docket {
         }
     }
 
+    /// Makes the strikes that are proposed, and appends their answers where there is room for them.
+    // By itself, and no list of calls for `perform_all`, since a list takes memory.
+    pub(super) fn propose<A: Arena>(
+        &mut self,
+        arena: &A,
+        table: &mut [u32],
+        strikes: &[Strike],
+        answers: &mut Vec<Result<Grant, Refusal>>,
+    )
+        requires { vec_len answers.old + length strikes.now ≤ vec_capacity answers.old }
+        ensures answered { answers.new.items ≡ answers.old.items ++ answers_of (A.Arena.view arena.now) (position self.old table.old) (proposals strikes.now) }
+        ensures after { position self.new table.new ≡ after (A.Arena.view arena.now) (position self.old table.old) (proposals strikes.now) }
+        ensures capacity { vec_capacity answers.new ≡ vec_capacity answers.old }
+    {
+        for strike in strikes {
+            let answer = self.perform(arena, table, Call::Strike(*strike));
+            answers.push_reserved(answer);
+        }
+    }
+
     // `made` stays one clause: two would each match on the result again
     /// Makes the calls one after the other, each starting where the one before it ended, and appends their answers.
     ///
@@ -63,6 +85,7 @@ impl Docket {
         ensures made { MatchResult result (λ _. (answers.new.items ≡ answers.old.items ++ answers_of (A.Arena.view arena.now) (position self.old table.old) calls.now) × (position self.new table.new ≡ after (A.Arena.view arena.now) (position self.old table.old) calls.now)) (λ _. (answers.new.items ≡ answers.old.items) × (position self.new table.new ≡ position self.old table.old)) }
         ensures room { vec_len answers.old + length calls.now ≤ vec_capacity answers.old → is_ok result ≡ true }
         ensures capacity { vec_capacity answers.old ≤ vec_capacity answers.new }
+        ensures spared { OnErr result (vec_capacity answers.new ≡ vec_capacity answers.old) }
         ensures law { RunLaw (A.Arena.view arena.now) (position self.old table.old) calls.now }
         ensures certificates { CertificateLaw (A.Arena.view arena.now) }
     {

@@ -1,28 +1,33 @@
-use Rattle.std.proofs.Common.{◌≡◌, rules, ap, ◌∙◌}
-use Rattle.systems.specs.CodeList.{code_list, listed}
-use Rattle.systems.specs.Layout.{stored}
+use Rattle.std.proofs.Common.{◌≡◌, rules, sym, ap, ◌∙◌}
 use Rattle.systems.specs.Meaning.{Meaning}
+use Rattle.systems.specs.Refused.{if_granted}
 use Rattle.hosting.specs.Answers.{decision_of}
-use Rattle.layered.specs.Codes.{coded}
+use Rattle.layered.specs.Codes.{coded, coded_decision, meant}
 use Rattle.layered.specs.Layers.{decide_says, decide_does}
 use Rattle.layered.proofs.coded.layered_decide_coded.Goals as goal
 
-pub returns-clause-answer : goal.returns-clause-answer
-returns-clause-answer c =
+pub returns-in-Ok-clause-answer : goal.returns-in-Ok-clause-answer
+returns-in-Ok-clause-answer c =
     let tolerances = c.args.tolerances.now.channels in
     let table = c.args.table.now in
-    let was : Meaning = code_list (stored c.coded-new.result.system.words.now) c.coded-new.result.channel (listed c.coded-new.result.codes) c.coded-new.result.codes.cut in
+    let was : Meaning = meant c.in-Ok.sides.new in
     let is = coded c.args.old_words.now c.args.codes.now c.args.channel c.args.cut in
-    let old : code_list (stored c.coded-old.result.system.words.now) c.coded-old.result.channel (listed c.coded-old.result.codes) c.coded-old.result.codes.cut ≡ is = search (rules, c.coded-old.ensures.meaning) in
-    let new : was ≡ coded c.args.new_words.now c.args.codes.now c.args.channel c.args.cut = search (rules, c.coded-new.ensures.meaning) in
-    c.of.ensures ∙ ap decision_of (c.decide.ensures.answer ∙ ap (λ m. decide_says tolerances m was table) old ∙ ap (λ m. decide_says tolerances is m table) new)
+    let is' = coded c.args.new_words.now c.args.codes.now c.args.channel c.args.cut in
+    let old : meant c.in-Ok.sides.old ≡ is = search (rules, c.in-Ok.ensures.old) in
+    let new : was ≡ is' = search (rules, c.in-Ok.ensures.new) in
+    c.of.ensures
+    ∙ ap decision_of (c.decide.ensures.answer ∙ ap (λ m. decide_says tolerances m was table) old ∙ ap (λ m. decide_says tolerances is m table) new)
+    ∙ sym (ap (λ fault. coded_decision fault (decide_says tolerances is is' table)) c.in-Ok.ensures.fault)
 
-pub returns-clause-table : goal.returns-clause-table
-returns-clause-table c =
+pub returns-in-Ok-clause-table : goal.returns-in-Ok-clause-table
+returns-in-Ok-clause-table c =
     let tolerances = c.args.tolerances.now.channels in
     let table = c.args.table.now in
-    let was : Meaning = code_list (stored c.coded-new.result.system.words.now) c.coded-new.result.channel (listed c.coded-new.result.codes) c.coded-new.result.codes.cut in
+    let was : Meaning = meant c.in-Ok.sides.new in
     let is = coded c.args.old_words.now c.args.codes.now c.args.channel c.args.cut in
-    let old : code_list (stored c.coded-old.result.system.words.now) c.coded-old.result.channel (listed c.coded-old.result.codes) c.coded-old.result.codes.cut ≡ is = search (rules, c.coded-old.ensures.meaning) in
-    let new : was ≡ coded c.args.new_words.now c.args.codes.now c.args.channel c.args.cut = search (rules, c.coded-new.ensures.meaning) in
-    c.decide.ensures.table ∙ ap (λ m. decide_does tolerances m was table) old ∙ ap (λ m. decide_does tolerances is m table) new
+    let is' = coded c.args.new_words.now c.args.codes.now c.args.channel c.args.cut in
+    let old : meant c.in-Ok.sides.old ≡ is = search (rules, c.in-Ok.ensures.old) in
+    let new : was ≡ is' = search (rules, c.in-Ok.ensures.new) in
+    c.decide.ensures.table
+    ∙ ap (λ m. decide_does tolerances m was table) old ∙ ap (λ m. decide_does tolerances is m table) new
+    ∙ sym (ap (λ fault. if_granted fault (decide_does tolerances is is' table) table) c.in-Ok.ensures.fault)

@@ -1,15 +1,51 @@
-use Rattle.std.proofs.Common.{rules, refl, ◌∙◌}
+use Rattle.std.proofs.Common.{Ok, Err, ◌∙◌}
 use Rattle.docket.specs.Position.{position}
 use Rattle.files.proofs.Held.{stored_is}
-use Rattle.report.proofs.Told.{decided_of, exchange_is, told_of}
+use Rattle.report.specs.Input.{new_system, old_system}
+use Rattle.docket.specs.declared.decision.DecideError.TheVariants.{Refused}
+use Rattle.report.proofs.Told.{answered_of, begun_from, decided_of, exchange_is, refused, tells}
 use Rattle.report.proofs.deciding.decide.Goals as goal
 
-pub returns : goal.returns
-returns c bytes read =
+pub returns-in-Ok-clause-told : goal.returns-in-Ok-clause-told
+returns-in-Ok-clause-told c =
     let input = c.args.input.now in
-    let old = stored_is _ input.old_words.items _ _ read.old c.deref.ensures.value c.new.ensures in
-    let new = stored_is _ input.new_words.items _ _ read.new c.deref-2.ensures.value c.new-2.ensures in
+    let bytes = input.bytes.now in
+    let read = c.requires in
+    let old_held = rw (read.old.bytes, read.old.place) at c.lay_out.ensures.held in
+    let new_held = rw (read.new.bytes, read.new.place) at c.lay_out-2.ensures.held in
+    let old = stored_is (old_system bytes) _ _ _ old_held c.deref.ensures.value c.new.ensures in
+    let new = stored_is (new_system bytes) _ _ _ new_held c.deref-2.ensures.value c.new-2.ensures in
     let A = exchange_is bytes _ _ _ old new read.tolerances in
-    let proposed = c.deref-3.ensures.value ∙ read.strikes in
+    let table = begun_from _ _ (c.deref_mut.ensures.value ∙ c.clear-3.ensures.entries) c.args.work.now.entries in
+    let proposed = c.deref-3.ensures.value ∙ rw read.list_place at c.read_strikes.ensures.strikes in
     let after = position c.decide.new.self c.decide.new.table in
-    told_of bytes input.list_place _ _ after read.list_place (search rules) (decided_of bytes _ _ _ _ _ _ after A c.new-3.ensures c.requires proposed refl c.decide.ensures)
+    tells bytes c.in-Ok.outcome after (decided_of bytes _ _ _ _ (Ok c.in-Ok.outcome) after A c.new-3.ensures table proposed c.in-Ok.ensures.decided)
+
+pub returns-in-Ok-clause-answers : goal.returns-in-Ok-clause-answers
+returns-in-Ok-clause-answers c =
+    let input = c.args.input.now in
+    let bytes = input.bytes.now in
+    let read = c.requires in
+    let old_held = rw (read.old.bytes, read.old.place) at c.lay_out.ensures.held in
+    let new_held = rw (read.new.bytes, read.new.place) at c.lay_out-2.ensures.held in
+    let old = stored_is (old_system bytes) _ _ _ old_held c.deref.ensures.value c.new.ensures in
+    let new = stored_is (new_system bytes) _ _ _ new_held c.deref-2.ensures.value c.new-2.ensures in
+    let A = exchange_is bytes _ _ _ old new read.tolerances in
+    let table = begun_from _ _ (c.deref_mut.ensures.value ∙ c.clear-3.ensures.entries) c.args.work.now.entries in
+    let proposed = c.deref-3.ensures.value ∙ rw read.list_place at c.read_strikes.ensures.strikes in
+    answered_of bytes _ _ _ _ (Ok c.in-Ok.outcome) _ A c.new-3.ensures table proposed (rw c.clear-2.ensures.items at c.in-Ok.ensures.answered)
+
+pub returns-in-Err-Refused-clause-told : goal.returns-in-Err-Refused-clause-told
+returns-in-Err-Refused-clause-told c =
+    let input = c.args.input.now in
+    let bytes = input.bytes.now in
+    let read = c.requires in
+    let old_held = rw (read.old.bytes, read.old.place) at c.lay_out.ensures.held in
+    let new_held = rw (read.new.bytes, read.new.place) at c.lay_out-2.ensures.held in
+    let old = stored_is (old_system bytes) _ _ _ old_held c.deref.ensures.value c.new.ensures in
+    let new = stored_is (new_system bytes) _ _ _ new_held c.deref-2.ensures.value c.new-2.ensures in
+    let A = exchange_is bytes _ _ _ old new read.tolerances in
+    let table = begun_from _ _ (c.deref_mut.ensures.value ∙ c.clear-3.ensures.entries) c.args.work.now.entries in
+    let proposed = c.deref-3.ensures.value ∙ rw read.list_place at c.read_strikes.ensures.strikes in
+    let after = position c.decide.new.self c.decide.new.table in
+    rw read.list_place (refused bytes after c.in-Err-Refused.refusal (decided_of bytes _ _ _ _ (Err (Refused c.in-Err-Refused.refusal)) after A c.new-3.ensures table proposed (rw c.in-Err-Refused.field-0-is at c.in-Err-Refused.ensures.decided)))

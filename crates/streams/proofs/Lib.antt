@@ -1,0 +1,2 @@
+mod Came
+pub mod Part
