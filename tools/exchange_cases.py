@@ -169,16 +169,21 @@ def decide(tolerance, old, new, strikes):
     return lines
 
 
+def read_input(data):
+    """The tolerance, both systems, the strikes and where their list begins."""
+    if len(data) > MOST_BYTES:
+        raise Fault(28, MOST_BYTES)
+    tolerance, place = read_number(data, 0)
+    if tolerance > 1000:
+        raise Fault(27, 0)
+    old, place = read_system(data, place)
+    new, place = read_system(data, place)
+    return tolerance, old, new, read_list(data, place), place
+
+
 def lines_for(data):
     try:
-        if len(data) > MOST_BYTES:
-            raise Fault(28, MOST_BYTES)
-        tolerance, place = read_number(data, 0)
-        if tolerance > 1000:
-            raise Fault(27, 0)
-        old, place = read_system(data, place)
-        new, place = read_system(data, place)
-        strikes = read_list(data, place)
+        tolerance, old, new, strikes, place = read_input(data)
         if old[0] != new[0]:
             raise Fault(2, place)
         if len(old[1]) * len(new[1]) > TABLE_ROOM:

@@ -9,7 +9,7 @@ import random
 from pathlib import Path
 
 from exchange_cases import (
-    EXAMPLE, Fault, MOST_BYTES, ONE, STEP, chain, drawn, lines_for, number, padded, read_list, read_number,
+    EXAMPLE, Fault, MOST_BYTES, ONE, STEP, chain, drawn, lines_for, number, padded, read_input, read_number,
     read_system, system,
 )
 
@@ -60,14 +60,7 @@ def lines_of_list(data, place):
 
 def lines_of_input(data):
     try:
-        if len(data) > MOST_BYTES:
-            raise Fault(28, MOST_BYTES)
-        tolerance, place = read_number(data, 0)
-        if tolerance > 1000:
-            raise Fault(27, 0)
-        old, place = read_system(data, place)
-        new, place = read_system(data, place)
-        read_list(data, place)
+        tolerance, old, new, _, place = read_input(data)
     except Fault as fault:
         return [f"fault {fault.number} at {fault.place}"], 1
     lines = [f"tolerance {tolerance}", "old system", *lines_of_system(*old), "new system", *lines_of_system(*new)]
