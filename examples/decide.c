@@ -19,6 +19,14 @@ int main(void) {
         printf("refused with %d\n", decision.refusal.number);
         return 1;
     }
+    /* The words hold both systems now, and the table shows the verdict. */
+    const struct cunaweho_certificate certificate = cunaweho_check(
+        old_words, CUNAWEHO_MAX_WORDS, new_words, CUNAWEHO_MAX_WORDS, &tolerances,
+        table, CUNAWEHO_MAX_ENTRIES);
+    if (certificate.refusal.number != 0 || certificate.replaces != decision.replaces) {
+        printf("the table is no certificate\n");
+        return 1;
+    }
     printf("swept %lu\nstanding %lu\n%s\n", (unsigned long)decision.swept,
            (unsigned long)decision.standing,
            decision.replaces ? "replaces" : "differs");

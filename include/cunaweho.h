@@ -2,10 +2,10 @@
  * Cunaweho: decides whether a new buoy controller may float where an old one
  * does.
  *
- * Each type is filed as a finite system. A call is lent the bytes of files,
- * and memory for what it makes of them, and answers by value. docs/RULES.md
- * says what the answers mean, docs/FORMATS.md how files, words and tables
- * look, and docs/REFUSALS.md what each refusal number says.
+ * Each type is filed as a finite system. A call is lent the bytes of files, or
+ * words that hold systems, and memory for what it makes of them, and answers by
+ * value. docs/RULES.md says what the answers mean, docs/FORMATS.md how files,
+ * words and tables look, and docs/REFUSALS.md what each refusal number says.
  *
  * What a call is lent. Several values in a row are lent as a pointer and their
  * number. No pointer may be null, also where the number is 0, and each must be
@@ -80,7 +80,9 @@ enum cunaweho_item {
     CUNAWEHO_EXCHANGE = 4,   /* both systems together, or the table for them */
     CUNAWEHO_PAIR = 5,       /* a pair out of order in a certificate */
     CUNAWEHO_FILE = 6,       /* a number of the file that is read */
-    CUNAWEHO_SYSTEM = 7      /* the system to be written, or the bytes for it */
+    CUNAWEHO_SYSTEM = 7,     /* the system to be written, or the bytes for it */
+    CUNAWEHO_OLD_WORDS = 8,  /* the layout of the old type's words */
+    CUNAWEHO_NEW_WORDS = 9   /* the layout of the new type's words */
 };
 
 /* Why a call is refused. */
@@ -196,17 +198,25 @@ struct cunaweho_written cunaweho_write_system(
     uint8_t *bytes, size_t bytes_len);
 
 /*
- * The three calls on an exchange: an old type, a new type and tolerances.
+ * The five calls on an exchange: an old type, a new type and tolerances. Two
+ * are lent the types in files, three in words that hold them already.
  *
- * Each is lent both files, which begin at the front of their bytes, with
- * anything behind them; words for the two systems, CUNAWEHO_WORDS(states,
- * channels) of them each or more; and a table with an entry for each pair of
- * states, CUNAWEHO_ENTRIES(old states, new states) or more. That of pair
- * (w, w') is entry w * n' + w', where n' is the number of new states. An entry
- * of 0 says that the pair stands, any other that it is struck. What words and
- * table held before does not matter, but for the table of a check.
+ * Each is lent a table with an entry for each pair of states,
+ * CUNAWEHO_ENTRIES(old states, new states) or more. That of pair (w, w') is
+ * entry w * n' + w', where n' is the number of new states. An entry of 0 says
+ * that the pair stands, any other that it is struck. What the table held before
+ * does not matter, but for that of a check.
  *
- * Each is refused with, in this order:
+ * Where a call is refused, all that was lent is as it was. Where it is granted,
+ * entries behind those of the pairs are as they were.
+ *
+ * Each takes up to about 0.5 MB of stack, as trials showed; below 1,024 pairs
+ * far less.
+ *
+ * The two calls on files are lent both files, which begin at the front of their
+ * bytes, with anything behind them; and words for the two systems,
+ * CUNAWEHO_WORDS(states, channels) of them each or more, whatever they held
+ * before. Each is refused with, in this order:
  *   27  a tolerance is above 1,000: item CUNAWEHO_TOLERANCES, with `place` the
  *       first channel that has one
  *   15 to 22  as a read of the old file from byte 0 into all of `old_words`:
@@ -216,13 +226,9 @@ struct cunaweho_written cunaweho_write_system(
  *       CUNAWEHO_EXCHANGE
  *    4  the table has fewer entries than there are pairs: item
  *       CUNAWEHO_EXCHANGE
- * and all that was lent is then as it was.
  *
- * Granted: the two systems lie at the front of their words; words behind them,
- * and entries behind those of the pairs, are as they were.
- *
- * Each takes up to about 0.5 MB of stack, as trials showed; below 1,024 pairs
- * far less.
+ * Granted: the two systems lie at the front of their words, where the three
+ * calls on words find them; words behind them are as they were.
  */
 
 /*
@@ -245,28 +251,6 @@ struct cunaweho_decision cunaweho_decide(
     uint32_t *table, size_t table_len);
 
 /*
- * Checks whether the table is a certificate of the exchange, whoever wrote it:
- * whether it shows by itself that its standing pairs are the largest
- * simulation.
- *
- * Beside the refusals above, and after them, it is refused at the first pair,
- * in the order of the entries, that is out of order:
- *   13  it is struck, and neither unlike nor refuted by smaller entries
- *   14  it stands, and is unlike or refuted
- * with item CUNAWEHO_PAIR, `state` its old state and `new_state` its new one.
- * The two systems then lie in their words as where the check is granted.
- *
- * The table is only read.
- */
-struct cunaweho_certificate cunaweho_check(
-    const uint8_t *old_file, size_t old_file_len,
-    const uint8_t *new_file, size_t new_file_len,
-    const struct cunaweho_tolerances *tolerances,
-    uint16_t *old_words, size_t old_words_len,
-    uint16_t *new_words, size_t new_words_len,
-    const uint32_t *table, size_t table_len);
-
-/*
  * Ranks the pairs: how soon each is refuted, 1 for a pair that is unlike, and
  * 0 for one that stands.
  *
@@ -279,6 +263,65 @@ struct cunaweho_ranks cunaweho_rank(
     const struct cunaweho_tolerances *tolerances,
     uint16_t *old_words, size_t old_words_len,
     uint16_t *new_words, size_t new_words_len,
+    uint32_t *table, size_t table_len);
+
+/*
+ * The three calls on words are lent words at whose front the two systems lie,
+ * as a read at word 0 or a granted call on files leaves them, with anything
+ * behind them.
+ * The words are only read. Each call is refused with, in this order:
+ *   27  a tolerance is above 1,000: item CUNAWEHO_TOLERANCES, with `place` the
+ *       first channel that has one
+ *   18 to 22  the words of the old type do not have the layout: item
+ *       CUNAWEHO_OLD_WORDS
+ *   18 to 22  the same of the new type: item CUNAWEHO_NEW_WORDS
+ *    2  the types do not have the same number of channels: item
+ *       CUNAWEHO_EXCHANGE
+ *    4  the table has fewer entries than there are pairs: item
+ *       CUNAWEHO_EXCHANGE
+ *
+ * The layout is tested in this order: 20 for under two words; 18 where the
+ * number of states is not 1 to 256; 19 where the number of channels is not 1 to
+ * 8; 20 where there are fewer than CUNAWEHO_WORDS(states, channels) words; then
+ * state by state 21 where a number of moves is not 1 to 16, and 22 where a next
+ * state that is used is not below the number of states.
+ */
+
+/*
+ * Decides as cunaweho_decide does.
+ */
+struct cunaweho_decision cunaweho_decide_words(
+    const uint16_t *old_words, size_t old_words_len,
+    const uint16_t *new_words, size_t new_words_len,
+    const struct cunaweho_tolerances *tolerances,
+    uint32_t *table, size_t table_len);
+
+/*
+ * Checks whether the table is a certificate of the exchange, whoever wrote it:
+ * whether it shows by itself that its standing pairs are the largest
+ * simulation.
+ *
+ * Beside the refusals above, and after them, it is refused at the first pair,
+ * in the order of the entries, that is out of order:
+ *   13  it is struck, and neither unlike nor refuted by smaller entries
+ *   14  it stands, and is unlike or refuted
+ * with item CUNAWEHO_PAIR, `state` its old state and `new_state` its new one.
+ *
+ * The table is only read as well, so that nothing is written at all.
+ */
+struct cunaweho_certificate cunaweho_check(
+    const uint16_t *old_words, size_t old_words_len,
+    const uint16_t *new_words, size_t new_words_len,
+    const struct cunaweho_tolerances *tolerances,
+    const uint32_t *table, size_t table_len);
+
+/*
+ * Ranks as cunaweho_rank does.
+ */
+struct cunaweho_ranks cunaweho_rank_words(
+    const uint16_t *old_words, size_t old_words_len,
+    const uint16_t *new_words, size_t new_words_len,
+    const struct cunaweho_tolerances *tolerances,
     uint32_t *table, size_t table_len);
 
 #ifdef __cplusplus

@@ -193,11 +193,13 @@ static const struct word primes_words[] = {
     {6, 32779}, {7, 32781}, {8, 32785}, {9, 32787}, {10, 1},    {11, 1}};
 static const struct type primes = TYPE(primes, 268);
 
-/* What the three calls on an exchange are lent. */
+/* What the five calls on an exchange are lent. Those on words can be lent a
+ * word of either type that is other than the type's. */
 struct exchange {
     const struct type *old_type, *new_type;
     struct cunaweho_tolerances tolerances;
     size_t old_file_len, new_file_len, old_words_len, new_words_len, table_len;
+    const struct word *old_change, *new_change;
 };
 
 /* With just the memory that it wants, and all tolerances 0. */
@@ -224,15 +226,6 @@ static struct cunaweho_decision decide(const struct exchange *exchange) {
                            lent.table, exchange->table_len);
 }
 
-static struct cunaweho_certificate check(const struct exchange *exchange) {
-    return cunaweho_check(exchange->old_type->file, exchange->old_file_len,
-                          exchange->new_type->file, exchange->new_file_len,
-                          &exchange->tolerances,
-                          lent.old_words, exchange->old_words_len,
-                          lent.new_words, exchange->new_words_len,
-                          lent.table, exchange->table_len);
-}
-
 static struct cunaweho_ranks rank(const struct exchange *exchange) {
     return cunaweho_rank(exchange->old_type->file, exchange->old_file_len,
                          exchange->new_type->file, exchange->new_file_len,
@@ -242,10 +235,46 @@ static struct cunaweho_ranks rank(const struct exchange *exchange) {
                          lent.table, exchange->table_len);
 }
 
-/* Both types have to lie in their words. */
-static void want_laid_out(const struct exchange *exchange) {
-    put_type(wanted.old_words, exchange->old_type);
-    put_type(wanted.new_words, exchange->new_type);
+static struct cunaweho_decision decide_words(const struct exchange *exchange) {
+    return cunaweho_decide_words(lent.old_words, exchange->old_words_len,
+                                 lent.new_words, exchange->new_words_len,
+                                 &exchange->tolerances,
+                                 lent.table, exchange->table_len);
+}
+
+static struct cunaweho_certificate check(const struct exchange *exchange) {
+    return cunaweho_check(lent.old_words, exchange->old_words_len,
+                          lent.new_words, exchange->new_words_len,
+                          &exchange->tolerances,
+                          lent.table, exchange->table_len);
+}
+
+static struct cunaweho_ranks rank_words(const struct exchange *exchange) {
+    return cunaweho_rank_words(lent.old_words, exchange->old_words_len,
+                               lent.new_words, exchange->new_words_len,
+                               &exchange->tolerances,
+                               lent.table, exchange->table_len);
+}
+
+/* Lays out both types in the words of the memory. */
+static void lay_out(struct memory *memory, const struct exchange *exchange) {
+    put_type(memory->old_words, exchange->old_type);
+    put_type(memory->new_words, exchange->new_type);
+}
+
+/* Begins a trial of a call on words: both types lie in them. */
+static void begin_laid_out(const char *call, const char *what,
+                           const struct exchange *exchange,
+                           const uint32_t *entries, size_t len) {
+    begin(call, what, entries, len);
+    lay_out(&lent, exchange);
+    if (exchange->old_change != NULL) {
+        lent.old_words[exchange->old_change->place] = exchange->old_change->value;
+    }
+    if (exchange->new_change != NULL) {
+        lent.new_words[exchange->new_change->place] = exchange->new_change->value;
+    }
+    wanted = lent;
 }
 
 /* What is wanted of the calls where they are granted. */
@@ -257,13 +286,8 @@ struct answers {
     uint32_t strikes[6], ranks[6];
 };
 
-static void try_decide(const char *what, const struct exchange *exchange,
-                       size_t pairs, const struct answers *answers) {
-    struct cunaweho_decision came;
-    begin("decide", what, NULL, 0);
-    want_laid_out(exchange);
-    put_table(&wanted, answers->strikes, pairs);
-    came = decide(exchange);
+static void expect_decision(struct cunaweho_decision came,
+                            const struct answers *answers) {
     expect_granted(came.refusal);
     expect("swept", answers->swept, came.swept);
     expect("standing", answers->standing, came.standing);
@@ -271,12 +295,23 @@ static void try_decide(const char *what, const struct exchange *exchange,
     expect_memory();
 }
 
+static void try_decide(const char *what, const struct exchange *exchange,
+                       size_t pairs, const struct answers *answers) {
+    begin("decide", what, NULL, 0);
+    lay_out(&wanted, exchange);
+    put_table(&wanted, answers->strikes, pairs);
+    expect_decision(decide(exchange), answers);
+
+    begin_laid_out("decide_words", what, exchange, NULL, 0);
+    put_table(&wanted, answers->strikes, pairs);
+    expect_decision(decide_words(exchange), answers);
+}
+
 static void try_check(const char *what, const struct exchange *exchange,
                       const uint32_t *table, size_t pairs,
                       const struct answers *answers) {
     struct cunaweho_certificate came;
-    begin("check", what, table, pairs);
-    want_laid_out(exchange);
+    begin_laid_out("check", what, exchange, table, pairs);
     came = check(exchange);
     expect_granted(came.refusal);
     expect("standing", answers->standing, came.standing);
@@ -284,16 +319,22 @@ static void try_check(const char *what, const struct exchange *exchange,
     expect_memory();
 }
 
-static void try_rank(const char *what, const struct exchange *exchange,
-                     size_t pairs, const struct answers *answers) {
-    struct cunaweho_ranks came;
-    begin("rank", what, NULL, 0);
-    want_laid_out(exchange);
-    put_table(&wanted, answers->ranks, pairs);
-    came = rank(exchange);
+static void expect_ranks(struct cunaweho_ranks came, const struct answers *answers) {
     expect_granted(came.refusal);
     expect("highest", answers->highest, came.highest);
     expect_memory();
+}
+
+static void try_rank(const char *what, const struct exchange *exchange,
+                     size_t pairs, const struct answers *answers) {
+    begin("rank", what, NULL, 0);
+    lay_out(&wanted, exchange);
+    put_table(&wanted, answers->ranks, pairs);
+    expect_ranks(rank(exchange), answers);
+
+    begin_laid_out("rank_words", what, exchange, NULL, 0);
+    put_table(&wanted, answers->ranks, pairs);
+    expect_ranks(rank_words(exchange), answers);
 }
 
 static void try_granted(const char *what, const struct exchange *exchange,
@@ -304,13 +345,12 @@ static void try_granted(const char *what, const struct exchange *exchange,
     try_rank(what, exchange, pairs, answers);
 }
 
-/* A check that names a pair. */
+/* A check that names a pair, and changes nothing. */
 static void try_pair(const char *what, const struct exchange *exchange,
                      const uint32_t *table, size_t pairs, unsigned number,
                      unsigned state, unsigned new_state) {
     struct cunaweho_certificate came;
-    begin("check", what, table, pairs);
-    want_laid_out(exchange);
+    begin_laid_out("check", what, exchange, table, pairs);
     came = check(exchange);
     expect_refusal(came.refusal, number, CUNAWEHO_PAIR, state, new_state, 0);
     expect("standing", 0, came.standing);
@@ -318,31 +358,131 @@ static void try_pair(const char *what, const struct exchange *exchange,
     expect_memory();
 }
 
-/* Each of the three calls is refused, and changes nothing. */
+/* A refusal with no new state, and where it is told. */
+struct refused {
+    unsigned number;
+    enum cunaweho_item item;
+    unsigned state;
+    size_t place;
+};
+
+static struct refused refused_with(unsigned number, enum cunaweho_item item,
+                                   unsigned state, size_t place) {
+    struct refused made;
+    made.number = number;
+    made.item = item;
+    made.state = state;
+    made.place = place;
+    return made;
+}
+
+static void expect_refused(struct cunaweho_refusal came, struct refused refused) {
+    expect_refusal(came, refused.number, refused.item, refused.state, 0, refused.place);
+    expect_memory();
+}
+
+static void expect_no_decision(struct cunaweho_decision came, struct refused refused) {
+    expect("swept", 0, came.swept);
+    expect("standing", 0, came.standing);
+    expect("replaces", false, came.replaces);
+    expect_refused(came.refusal, refused);
+}
+
+static void expect_no_ranks(struct cunaweho_ranks came, struct refused refused) {
+    expect("highest", 0, came.highest);
+    expect_refused(came.refusal, refused);
+}
+
+/* The two calls on files are refused, and change nothing. */
+static void try_refused_files(const char *what, const struct exchange *exchange,
+                              struct refused refused) {
+    begin("decide", what, NULL, 0);
+    expect_no_decision(decide(exchange), refused);
+    begin("rank", what, NULL, 0);
+    expect_no_ranks(rank(exchange), refused);
+}
+
+/* The three calls on words are refused, and change nothing. */
+static void try_refused_words(const char *what, const struct exchange *exchange,
+                              struct refused refused) {
+    struct cunaweho_certificate certificate;
+    begin_laid_out("decide_words", what, exchange, NULL, 0);
+    expect_no_decision(decide_words(exchange), refused);
+    begin_laid_out("check", what, exchange, NULL, 0);
+    certificate = check(exchange);
+    expect("standing", 0, certificate.standing);
+    expect("replaces", false, certificate.replaces);
+    expect_refused(certificate.refusal, refused);
+    begin_laid_out("rank_words", what, exchange, NULL, 0);
+    expect_no_ranks(rank_words(exchange), refused);
+}
+
+/* Each of the five calls is refused in the same way. */
 static void try_refused(const char *what, const struct exchange *exchange,
                         unsigned number, enum cunaweho_item item,
                         unsigned state, size_t place) {
-    struct cunaweho_decision decision;
-    struct cunaweho_certificate certificate;
-    struct cunaweho_ranks ranks;
-    begin("decide", what, NULL, 0);
-    decision = decide(exchange);
-    expect_refusal(decision.refusal, number, item, state, 0, place);
-    expect("swept", 0, decision.swept);
-    expect("standing", 0, decision.standing);
-    expect("replaces", false, decision.replaces);
-    expect_memory();
-    begin("check", what, NULL, 0);
-    certificate = check(exchange);
-    expect_refusal(certificate.refusal, number, item, state, 0, place);
-    expect("standing", 0, certificate.standing);
-    expect("replaces", false, certificate.replaces);
-    expect_memory();
-    begin("rank", what, NULL, 0);
-    ranks = rank(exchange);
-    expect_refusal(ranks.refusal, number, item, state, 0, place);
-    expect("highest", 0, ranks.highest);
-    expect_memory();
+    const struct refused refused = refused_with(number, item, state, place);
+    try_refused_files(what, exchange, refused);
+    try_refused_words(what, exchange, refused);
+}
+
+/* A word of the old type, of the new, and of both that breaks the layout. */
+static void try_layout(const char *what, const struct exchange *whole,
+                       const struct word *old_change,
+                       const struct word *new_change, unsigned number) {
+    struct exchange exchange = *whole;
+    exchange.new_change = new_change;
+    try_refused_words(what, &exchange,
+                      refused_with(number, CUNAWEHO_NEW_WORDS, 0, 0));
+    exchange.old_change = old_change;
+    try_refused_words(what, &exchange,
+                      refused_with(number, CUNAWEHO_OLD_WORDS, 0, 0));
+    exchange.new_change = NULL;
+    try_refused_words(what, &exchange,
+                      refused_with(number, CUNAWEHO_OLD_WORDS, 0, 0));
+    exchange.tolerances.channels[5] = CUNAWEHO_MAX_TOLERANCE + 1;
+    try_refused_words(what, &exchange,
+                      refused_with(27, CUNAWEHO_TOLERANCES, 0, 5));
+}
+
+static void try_layouts(void) {
+    static const struct word no_state = {0, 0}, many_states = {0, 257};
+    static const struct word no_channel = {1, 0}, many_channels = {1, 9};
+    static const struct word no_move = {3, 0}, many_moves = {4, 17};
+    static const struct word third = {22, 2}, fourth = {556, 3};
+    const struct exchange whole = exchange_of(&one, &two, 6);
+    struct exchange exchange = whole;
+    try_layout("no state", &whole, &no_state, &no_state, 18);
+    try_layout("257 states", &whole, &many_states, &many_states, 18);
+    try_layout("no channel", &whole, &no_channel, &no_channel, 19);
+    try_layout("nine channels", &whole, &many_channels, &many_channels, 19);
+    try_layout("no move", &whole, &no_move, &no_move, 21);
+    try_layout("17 moves", &whole, &many_moves, &many_moves, 21);
+    try_layout("next state n", &whole, &third, &fourth, 22);
+
+    exchange.new_words_len = 778;
+    try_refused_words("new words short", &exchange,
+                      refused_with(20, CUNAWEHO_NEW_WORDS, 0, 0));
+    exchange.old_words_len = 519;
+    try_refused_words("both words short", &exchange,
+                      refused_with(20, CUNAWEHO_OLD_WORDS, 0, 0));
+    exchange = whole;
+    exchange.new_words_len = 1;
+    try_refused_words("one new word", &exchange,
+                      refused_with(20, CUNAWEHO_NEW_WORDS, 0, 0));
+    exchange.old_words_len = 0;
+    try_refused_words("no old word", &exchange,
+                      refused_with(20, CUNAWEHO_OLD_WORDS, 0, 0));
+
+    /* Behind the layouts comes what is refused of both types together. */
+    exchange = exchange_of(&one, &sample, 3);
+    try_refused_words("other channels, table short", &exchange,
+                      refused_with(2, CUNAWEHO_EXCHANGE, 0, 0));
+    exchange = whole;
+    exchange.new_change = &fourth;
+    exchange.table_len = 5;
+    try_refused_words("next state n, table short", &exchange,
+                      refused_with(22, CUNAWEHO_NEW_WORDS, 0, 0));
 }
 
 static void try_buffers(void) {
@@ -366,16 +506,20 @@ static void try_buffers(void) {
 
     exchange = whole;
     exchange.old_file_len = 19;
-    try_refused("old file cut", &exchange, 15, CUNAWEHO_OLD_FILE, 1, 19);
+    try_refused_files("old file cut", &exchange,
+                      refused_with(15, CUNAWEHO_OLD_FILE, 1, 19));
     exchange = whole;
     exchange.new_file_len = 28;
-    try_refused("new file cut", &exchange, 15, CUNAWEHO_NEW_FILE, 2, 28);
+    try_refused_files("new file cut", &exchange,
+                      refused_with(15, CUNAWEHO_NEW_FILE, 2, 28));
     exchange = whole;
     exchange.old_words_len = 519;
-    try_refused("old words short", &exchange, 20, CUNAWEHO_OLD_FILE, 0, 1);
+    try_refused_files("old words short", &exchange,
+                      refused_with(20, CUNAWEHO_OLD_FILE, 0, 1));
     exchange = whole;
     exchange.new_words_len = 778;
-    try_refused("new words short", &exchange, 20, CUNAWEHO_NEW_FILE, 0, 1);
+    try_refused_files("new words short", &exchange,
+                      refused_with(20, CUNAWEHO_NEW_FILE, 0, 1));
     exchange = whole;
     exchange.table_len = 5;
     try_refused("table short", &exchange, 4, CUNAWEHO_EXCHANGE, 0, 0);
@@ -501,6 +645,7 @@ int main(void) {
     try_writes();
     try_buffers();
     try_still();
+    try_layouts();
     try_tolerances();
     if (wrong != 0) {
         printf("%lu of %lu values are wrong\n", (unsigned long)wrong, (unsigned long)compared);

@@ -2,6 +2,7 @@
 
 mod counts;
 mod lent;
+mod words;
 
 use crate::draw::{Dice, Shape, damage_table, damaged_file, exchange, random_up_to};
 use crate::implementation::{
@@ -23,6 +24,8 @@ const DAMAGED_EXCHANGES: usize = 1_000;
 const FAULTY_EXCHANGES: usize = 50_000;
 /// Stored systems whose words are damaged.
 const STORED_SYSTEMS: usize = 5_000;
+/// Exchanges of two stored systems, with several faults at once.
+const STORED_EXCHANGES: usize = 50_000;
 const PROGRESS_EVERY: usize = 250;
 /// Damaged tables for each exchange.
 const DAMAGED_TABLES: usize = 6;
@@ -49,7 +52,7 @@ fn show_progress(name: &str, what: &str, done: usize, of: usize) {
 /// A comparison that is made many times, on something drawn anew each time.
 type Comparison = fn(&dyn Implementation, &mut Dice, &mut Counts);
 
-const COMPARISONS: [(&str, usize, Comparison); 6] = [
+const COMPARISONS: [(&str, usize, Comparison); 7] = [
     ("files", FILES, compare_file),
     ("stored systems", STORED_SYSTEMS, compare_stored),
     ("exchanges", EXCHANGES, compare_exchange),
@@ -60,6 +63,7 @@ const COMPARISONS: [(&str, usize, Comparison); 6] = [
         lent::compare_damaged,
     ),
     ("faulty exchanges", FAULTY_EXCHANGES, lent::compare_faults),
+    ("stored exchanges", STORED_EXCHANGES, words::compare_words),
 ];
 
 /// Compares on drawn files and exchanges, up to the first that is answered
@@ -163,17 +167,7 @@ fn compare_stored(implementation: &dyn Implementation, dice: &mut Dice, counts: 
         readings: &[0, 1, -1, 8_192, i16::MAX, i16::MIN],
     };
     let mut words = naive::words(&random_up_to(dice, most));
-    match dice.below(4) {
-        0 => words.truncate(dice.below(words.len() + 1)),
-        1 => words.extend([UNTOUCHED_WORD; UNTOUCHED_BEHIND]),
-        2 => {
-            // Some words are used by no pair of moves.
-            let reach = words.len().min(dice.pick(&[4, 40, usize::MAX]));
-            let place = dice.below(reach);
-            words[place] = dice.pick(&[0, 1, 5, 9, 17, 257, UNTOUCHED_WORD]);
-        }
-        _ => (),
-    }
+    damage_words(dice, &mut words);
     let expected = naive::stored(&words).file();
     let (bytes_before, room) = draw_room(dice, expected.len());
     let mut bytes = bytes_before.clone();
@@ -188,6 +182,21 @@ fn compare_stored(implementation: &dyn Implementation, dice: &mut Dice, counts: 
             && file == expected
             && behind.iter().all(|&byte| byte == UNTOUCHED_BYTE);
         counts.note("stored systems written", agrees, tell);
+    }
+}
+
+/// Cuts the words, puts others behind them, changes one, or leaves them.
+fn damage_words(dice: &mut Dice, words: &mut Vec<u16>) {
+    match dice.below(4) {
+        0 => words.truncate(dice.below(words.len() + 1)),
+        1 => words.extend([UNTOUCHED_WORD; UNTOUCHED_BEHIND]),
+        2 => {
+            // Some words are used by no pair of moves.
+            let reach = words.len().min(dice.pick(&[4, 40, usize::MAX]));
+            let place = dice.below(reach);
+            words[place] = dice.pick(&[0, 1, 5, 9, 17, 257, UNTOUCHED_WORD]);
+        }
+        _ => (),
     }
 }
 
@@ -249,6 +258,8 @@ fn name_of(failure: &Failure) -> String {
         Failure::Tolerance(refusal, _) => format!("tolerance refused with {refusal}"),
         Failure::OldFile(fault) => format!("old file refused with {}", fault.refusal),
         Failure::NewFile(fault) => format!("new file refused with {}", fault.refusal),
+        Failure::OldWords(refusal) => format!("old words refused with {refusal}"),
+        Failure::NewWords(refusal) => format!("new words refused with {refusal}"),
         Failure::Refused(refusal) => format!("exchange refused with  {refusal}"),
         Failure::OutOfOrder(refusal, _) => format!("pair out of order, {refusal}"),
     }

@@ -46,6 +46,15 @@ pub struct Exchange {
     pub likeness: Likeness,
 }
 
+/// Words that hold an old system and a new one, and the tolerances of the
+/// channels from 0 on.
+#[derive(Clone, Copy, Debug)]
+pub struct StoredExchange<'a> {
+    pub old_words: &'a [u16],
+    pub new_words: &'a [u16],
+    pub tolerances: [u16; 8],
+}
+
 /// The memory that a call is lent.
 pub struct Memory<'a> {
     /// Holds the systems of the old side's files, one behind the other.
@@ -140,6 +149,9 @@ pub enum Failure {
     Tolerance(Refusal, u8),
     OldFile(ReadFault),
     NewFile(ReadFault),
+    /// The words of the old system do not have the layout.
+    OldWords(Refusal),
+    NewWords(Refusal),
     /// The two systems do not go together, or the table does not serve.
     Refused(Refusal),
     /// The first pair of a certificate that is out of order.
@@ -155,9 +167,9 @@ pub enum Extra {
     Runs,
 }
 
-/// Where both sides of an exchange are files, a call on it that is refused,
-/// but for one that names a pair, leaves all memory as it was. Words behind
-/// the systems and entries behind the pairs are never touched.
+/// Where both sides of an exchange are files, a decision or ranking that is
+/// refused leaves all memory as it was. Words behind the systems and entries
+/// behind the pairs are never touched. A check lays out the files first.
 pub trait Implementation {
     fn name(&self) -> &str;
 
@@ -208,4 +220,16 @@ pub trait Implementation {
 
     /// Writes the ranks into the table; tells the highest.
     fn rank(&self, exchange: &Exchange, memory: &mut Memory) -> Result<u32, Failure>;
+
+    /// Decides an exchange of stored systems. A call that is refused leaves the
+    /// table as it was.
+    fn decide_words(
+        &self,
+        exchange: StoredExchange,
+        table: &mut [u32],
+    ) -> Result<Decision, Failure>;
+
+    fn check_words(&self, exchange: StoredExchange, table: &[u32]) -> Result<Accepted, Failure>;
+
+    fn rank_words(&self, exchange: StoredExchange, table: &mut [u32]) -> Result<u32, Failure>;
 }

@@ -6,7 +6,7 @@ use std::collections::BTreeSet;
 use crate::draw::{Draft, DraftState};
 use crate::implementation::{
     Accepted, Answer, Call, Cause, Codes, Decision, Exchange, Failure, Layer, Likeness, Pair,
-    Proposal, ReadFault, Refusal,
+    Proposal, ReadFault, Refusal, StoredExchange,
 };
 
 const MOST_STATES: usize = 256;
@@ -120,23 +120,30 @@ pub fn words(draft: &Draft) -> Vec<u16> {
     words
 }
 
-/// The system that stands at the front of the words, if they have the layout.
-fn laid_out(words: &[u16]) -> Option<Draft> {
-    let within = |word: u16, most: usize| (1..=most).contains(&word.into()).then_some(word.into());
-    let count = within(*words.first()?, MOST_STATES)?;
-    let channels = within(*words.get(1)?, MOST_CHANNELS)?;
+/// The system that stands at the front of the words, or the refusal of their
+/// layout.
+fn laid_out(words: &[u16]) -> Result<Draft, Refusal> {
+    let within = |word: u16, most: usize, refusal: Refusal| {
+        let word = usize::from(word);
+        (1..=most).contains(&word).then_some(word).ok_or(refusal)
+    };
+    let &[count, channels, ..] = words else {
+        return Err(20);
+    };
+    let count = within(count, MOST_STATES, 18)?;
+    let channels = within(channels, MOST_CHANNELS, 19)?;
     let row = channels + 2 + NEXT_WORDS;
-    let rows = words.get(2..2 + count * row)?;
+    let rows = words.get(2..2 + count * row).ok_or(20)?;
     let mut states = Vec::new();
     for row in rows.chunks(row) {
         let reading = |&word: &u16| (i32::from(word) - READING_OFFSET) as i16;
-        let controller = within(row[channels], MOST_MOVES)?;
-        let environment = within(row[channels + 1], MOST_MOVES)?;
+        let controller = within(row[channels], MOST_MOVES, 21)?;
+        let environment = within(row[channels + 1], MOST_MOVES, 21)?;
         let mut next = Vec::new();
         for own in 0..controller {
             for other in 0..environment {
                 let state = usize::from(row[channels + 2 + own * MOST_MOVES + other]);
-                next.push((state < count).then_some(state)?);
+                next.push((state < count).then_some(state).ok_or(22)?);
             }
         }
         states.push(DraftState {
@@ -146,7 +153,7 @@ fn laid_out(words: &[u16]) -> Option<Draft> {
             next,
         });
     }
-    Some(Draft { channels, states })
+    Ok(Draft { channels, states })
 }
 
 fn resting() -> Draft {
@@ -164,7 +171,7 @@ fn resting() -> Draft {
 
 /// The system at the front of the words, or the resting system.
 pub fn stored(words: &[u16]) -> Draft {
-    laid_out(words).unwrap_or_else(resting)
+    laid_out(words).unwrap_or_else(|_| resting())
 }
 
 /// How many words and entries a call on an exchange is lent.
@@ -182,18 +189,41 @@ pub fn opening(exchange: &Exchange, rooms: Rooms) -> Result<(Draft, Draft), Fail
         panic!("both sides have to be files");
     };
     if let Likeness::Within(tolerances) = exchange.likeness {
-        for (channel, most) in tolerances.into_iter().enumerate() {
-            if most > MOST_TOLERANCE {
-                return Err(Failure::Tolerance(27, channel as u8));
-            }
-        }
+        mild(tolerances)?;
     }
     let (old, _) = read(old, 0, rooms.old_words).map_err(Failure::OldFile)?;
     let (new, _) = read(new, 0, rooms.new_words).map_err(Failure::NewFile)?;
+    together(old, new, rooms.table)
+}
+
+/// The systems of an exchange of stored systems, or why every call on it is
+/// refused.
+pub fn opening_of_words(
+    exchange: StoredExchange,
+    entries: usize,
+) -> Result<(Draft, Draft), Failure> {
+    mild(exchange.tolerances)?;
+    let old = laid_out(exchange.old_words).map_err(Failure::OldWords)?;
+    let new = laid_out(exchange.new_words).map_err(Failure::NewWords)?;
+    together(old, new, entries)
+}
+
+/// Refuses the first tolerance that is too wide.
+fn mild(tolerances: [u16; 8]) -> Result<(), Failure> {
+    for (channel, most) in tolerances.into_iter().enumerate() {
+        if most > MOST_TOLERANCE {
+            return Err(Failure::Tolerance(27, channel as u8));
+        }
+    }
+    Ok(())
+}
+
+/// Both systems, if they and a table of so many entries serve together.
+fn together(old: Draft, new: Draft, entries: usize) -> Result<(Draft, Draft), Failure> {
     if old.channels != new.channels {
         return Err(Failure::Refused(2));
     }
-    if rooms.table < old.states.len() * new.states.len() {
+    if entries < old.states.len() * new.states.len() {
         return Err(Failure::Refused(4));
     }
     Ok((old, new))

@@ -1,13 +1,13 @@
 //! The proved library through its C interface, `include/cunaweho.h`. It takes
-//! exchanges of two files by tolerances, without proposals, and writes stored
-//! systems. With the feature `layered` a second library, which is there for
+//! exchanges of two files or stored systems by tolerances, without proposals,
+//! and writes stored systems. With the feature `layered` a second library, which is there for
 //! this comparison only, takes joints of two files and code lists over a file.
 
 #[cfg(feature = "layered")]
 use crate::implementation::Codes;
 use crate::implementation::{
     Accepted, Answer, Call, Decision, Exchange, Extra, Failure, Implementation, Layer, Likeness,
-    Memory, Pair, Proposal, Read, ReadFault, Refusal,
+    Memory, Pair, Proposal, Read, ReadFault, Refusal, StoredExchange,
 };
 
 /// Values of `enum cunaweho_item`, and the one that `crates/layered` has beside
@@ -21,7 +21,9 @@ mod item {
     pub const PAIR: u8 = 5;
     pub const FILE: u8 = 6;
     pub const SYSTEM: u8 = 7;
-    pub const CODES: u8 = 8;
+    pub const OLD_WORDS: u8 = 8;
+    pub const NEW_WORDS: u8 = 9;
+    pub const CODES: u8 = 10;
 }
 
 /// The number that stands in place of a refusal's where a call is granted.
@@ -122,20 +124,6 @@ unsafe extern "C" {
         table_len: usize,
     ) -> DecisionAnswer;
 
-    fn cunaweho_check(
-        old_file: *const u8,
-        old_file_len: usize,
-        new_file: *const u8,
-        new_file_len: usize,
-        tolerances: *const Tolerances,
-        old_words: *mut u16,
-        old_words_len: usize,
-        new_words: *mut u16,
-        new_words_len: usize,
-        table: *const u32,
-        table_len: usize,
-    ) -> CertificateAnswer;
-
     fn cunaweho_rank(
         old_file: *const u8,
         old_file_len: usize,
@@ -146,6 +134,36 @@ unsafe extern "C" {
         old_words_len: usize,
         new_words: *mut u16,
         new_words_len: usize,
+        table: *mut u32,
+        table_len: usize,
+    ) -> RanksAnswer;
+
+    fn cunaweho_decide_words(
+        old_words: *const u16,
+        old_words_len: usize,
+        new_words: *const u16,
+        new_words_len: usize,
+        tolerances: *const Tolerances,
+        table: *mut u32,
+        table_len: usize,
+    ) -> DecisionAnswer;
+
+    fn cunaweho_check(
+        old_words: *const u16,
+        old_words_len: usize,
+        new_words: *const u16,
+        new_words_len: usize,
+        tolerances: *const Tolerances,
+        table: *const u32,
+        table_len: usize,
+    ) -> CertificateAnswer;
+
+    fn cunaweho_rank_words(
+        old_words: *const u16,
+        old_words_len: usize,
+        new_words: *const u16,
+        new_words_len: usize,
+        tolerances: *const Tolerances,
         table: *mut u32,
         table_len: usize,
     ) -> RanksAnswer;
@@ -253,8 +271,13 @@ unsafe extern "C" {
 enum Sides<'a> {
     Files(&'a [u8], &'a [u8]),
     #[cfg(feature = "layered")]
+    Layers(Layers<'a>),
+}
+
+/// The sides of an exchange that `layered` takes.
+#[cfg(feature = "layered")]
+enum Layers<'a> {
     Joints([&'a [u8]; 2], [&'a [u8]; 2]),
-    #[cfg(feature = "layered")]
     Coded(&'a [u8], &'a [u8], &'a Codes),
 }
 
@@ -266,11 +289,12 @@ impl<'a> Sides<'a> {
             (Layer::Joint(first_old, second_old), Layer::Joint(first_new, second_new)) => {
                 let old = [file_of(first_old)?, file_of(second_old)?];
                 let new = [file_of(first_new)?, file_of(second_new)?];
-                Some(Sides::Joints(old, new))
+                Some(Sides::Layers(Layers::Joints(old, new)))
             }
             #[cfg(feature = "layered")]
             (Layer::Coded(old, codes), Layer::Coded(new, others)) if codes == others => {
-                Some(Sides::Coded(file_of(old)?, file_of(new)?, codes))
+                let (old, new) = (file_of(old)?, file_of(new)?);
+                Some(Sides::Layers(Layers::Coded(old, new, codes)))
             }
             _ => None,
         }
@@ -313,41 +337,71 @@ fn read_both<'w>(
     Ok(words.split_at(first))
 }
 
-/// Makes a call on an exchange: the function for two files, or that for joints
-/// or code lists. `$pointer` gives the pointer of the table.
-macro_rules! call {
-    ($files:ident, $joints:ident, $coded:ident, $exchange:expr, $memory:expr, $pointer:ident) => {{
-        let (sides, tolerances) = lent($exchange);
+/// Makes a call on two files.
+macro_rules! call_files {
+    ($call:ident, $old:expr, $new:expr, $tolerances:expr, $memory:expr) => {{
+        let (old, new): (&[u8], &[u8]) = ($old, $new);
         let (old_words, new_words) = (&mut *$memory.old_words, &mut *$memory.new_words);
         let table = &mut *$memory.table;
-        match sides {
-            // SAFETY: each pointer is that of a slice or reference that is
-            // borrowed up to the end of the call, with the slice's length;
-            // those that are written through are of slices that are borrowed
-            // mutably, so that nothing overlaps them.
-            Sides::Files(old, new) => unsafe {
-                $files(
-                    old.as_ptr(),
-                    old.len(),
-                    new.as_ptr(),
-                    new.len(),
-                    &tolerances,
-                    old_words.as_mut_ptr(),
-                    old_words.len(),
-                    new_words.as_mut_ptr(),
-                    new_words.len(),
-                    table.$pointer(),
-                    table.len(),
-                )
-            },
-            #[cfg(feature = "layered")]
-            Sides::Joints(old, new) => {
+        // SAFETY: each pointer is that of a slice or reference that is
+        // borrowed up to the end of the call, with the slice's length; those
+        // that are written through are of slices that are borrowed mutably, so
+        // that nothing overlaps them.
+        unsafe {
+            $call(
+                old.as_ptr(),
+                old.len(),
+                new.as_ptr(),
+                new.len(),
+                &$tolerances,
+                old_words.as_mut_ptr(),
+                old_words.len(),
+                new_words.as_mut_ptr(),
+                new_words.len(),
+                table.as_mut_ptr(),
+                table.len(),
+            )
+        }
+    }};
+}
+
+/// Makes a call on words. `$pointer` gives the pointer of the table.
+macro_rules! call_words {
+    ($call:ident, $exchange:expr, $table:expr, $pointer:ident) => {{
+        let (exchange, table) = ($exchange, $table);
+        let tolerances = Tolerances {
+            channels: exchange.tolerances,
+        };
+        // SAFETY: as above.
+        unsafe {
+            $call(
+                exchange.old_words.as_ptr(),
+                exchange.old_words.len(),
+                exchange.new_words.as_ptr(),
+                exchange.new_words.len(),
+                &tolerances,
+                table.$pointer(),
+                table.len(),
+            )
+        }
+    }};
+}
+
+/// Makes a call on joints or code lists. `$pointer` gives the pointer of the
+/// table.
+#[cfg(feature = "layered")]
+macro_rules! call_layers {
+    ($joints:ident, $coded:ident, $layers:expr, $tolerances:expr, $memory:expr, $pointer:ident) => {{
+        let (old_words, new_words) = (&mut *$memory.old_words, &mut *$memory.new_words);
+        let table = &mut *$memory.table;
+        match $layers {
+            Layers::Joints(old, new) => {
                 let old = read_both(old, old_words).map_err(Failure::OldFile)?;
                 let new = read_both(new, new_words).map_err(Failure::NewFile)?;
                 // SAFETY: as above.
                 unsafe {
                     $joints(
-                        &tolerances,
+                        &$tolerances,
                         old.0.as_ptr(),
                         old.0.len(),
                         old.1.as_ptr(),
@@ -361,8 +415,7 @@ macro_rules! call {
                     )
                 }
             }
-            #[cfg(feature = "layered")]
-            Sides::Coded(old, new, codes) => {
+            Layers::Coded(old, new, codes) => {
                 Proved
                     .read(old, 0, old_words, 0)
                     .map_err(Failure::OldFile)?;
@@ -374,7 +427,7 @@ macro_rules! call {
                 // SAFETY: as above.
                 unsafe {
                     $coded(
-                        &tolerances,
+                        &$tolerances,
                         old_words.as_ptr(),
                         old_words.len(),
                         new_words.as_ptr(),
@@ -467,6 +520,8 @@ impl Outcome {
             item::TOLERANCES => self.of_tolerance(),
             item::OLD_FILE => Failure::OldFile(self.in_file(item::OLD_FILE)),
             item::NEW_FILE => Failure::NewFile(self.in_file(item::NEW_FILE)),
+            item::OLD_WORDS => Failure::OldWords(self.whole(item::OLD_WORDS)),
+            item::NEW_WORDS => Failure::NewWords(self.whole(item::NEW_WORDS)),
             item::EXCHANGE => Failure::Refused(self.whole(item::EXCHANGE)),
             item::PAIR => self.of_pair(),
             item::CODES => Failure::Codes(self.whole(item::CODES)),
@@ -592,15 +647,20 @@ impl Implementation for Proved {
         memory: &mut Memory,
     ) -> Result<Decision, Failure> {
         assert!(proposals.is_empty(), "proposals are not offered");
-        call!(
-            cunaweho_decide,
-            layered_decide_joints,
-            layered_decide_coded,
-            exchange,
-            memory,
-            as_mut_ptr
-        )
-        .told()
+        let (sides, tolerances) = lent(exchange);
+        let answer = match sides {
+            Sides::Files(old, new) => call_files!(cunaweho_decide, old, new, tolerances, memory),
+            #[cfg(feature = "layered")]
+            Sides::Layers(layers) => call_layers!(
+                layered_decide_joints,
+                layered_decide_coded,
+                layers,
+                tolerances,
+                memory,
+                as_mut_ptr
+            ),
+        };
+        answer.told()
     }
 
     fn run(&self, _: &Exchange, _: &[Call], _: &mut Memory) -> Result<Vec<Answer>, Failure> {
@@ -608,26 +668,63 @@ impl Implementation for Proved {
     }
 
     fn check(&self, exchange: &Exchange, memory: &mut Memory) -> Result<Accepted, Failure> {
-        call!(
-            cunaweho_check,
-            layered_check_joints,
-            layered_check_coded,
-            exchange,
-            memory,
-            as_ptr
-        )
-        .told()
+        let (sides, tolerances) = lent(exchange);
+        match sides {
+            Sides::Files(old, new) => {
+                self.read(old, 0, memory.old_words, 0)
+                    .map_err(Failure::OldFile)?;
+                self.read(new, 0, memory.new_words, 0)
+                    .map_err(Failure::NewFile)?;
+                let stored = StoredExchange {
+                    old_words: memory.old_words,
+                    new_words: memory.new_words,
+                    tolerances: tolerances.channels,
+                };
+                self.check_words(stored, memory.table)
+            }
+            #[cfg(feature = "layered")]
+            Sides::Layers(layers) => call_layers!(
+                layered_check_joints,
+                layered_check_coded,
+                layers,
+                tolerances,
+                memory,
+                as_ptr
+            )
+            .told(),
+        }
     }
 
     fn rank(&self, exchange: &Exchange, memory: &mut Memory) -> Result<u32, Failure> {
-        call!(
-            cunaweho_rank,
-            layered_rank_joints,
-            layered_rank_coded,
-            exchange,
-            memory,
-            as_mut_ptr
-        )
-        .told()
+        let (sides, tolerances) = lent(exchange);
+        let answer = match sides {
+            Sides::Files(old, new) => call_files!(cunaweho_rank, old, new, tolerances, memory),
+            #[cfg(feature = "layered")]
+            Sides::Layers(layers) => call_layers!(
+                layered_rank_joints,
+                layered_rank_coded,
+                layers,
+                tolerances,
+                memory,
+                as_mut_ptr
+            ),
+        };
+        answer.told()
+    }
+
+    fn decide_words(
+        &self,
+        exchange: StoredExchange,
+        table: &mut [u32],
+    ) -> Result<Decision, Failure> {
+        call_words!(cunaweho_decide_words, exchange, table, as_mut_ptr).told()
+    }
+
+    fn check_words(&self, exchange: StoredExchange, table: &[u32]) -> Result<Accepted, Failure> {
+        call_words!(cunaweho_check, exchange, table, as_ptr).told()
+    }
+
+    fn rank_words(&self, exchange: StoredExchange, table: &mut [u32]) -> Result<u32, Failure> {
+        call_words!(cunaweho_rank_words, exchange, table, as_mut_ptr).told()
     }
 }

@@ -265,16 +265,13 @@ struct Trial<'a> {
 }
 
 impl Trial<'_> {
-    /// Compares the three calls where each is refused in the same way.
+    /// Compares the calls on files where each is refused in the same way.
     fn compare_refused(&mut self, failure: Failure) {
         let (implementation, exchange) = (self.implementation, self.exchange);
         self.refused_call("decide", failure, |lent| {
             implementation
                 .decide(exchange, &[], &mut lent.memory())
                 .err()
-        });
-        self.refused_call("check", failure, |lent| {
-            implementation.check(exchange, &mut lent.memory()).err()
         });
         self.refused_call("rank", failure, |lent| {
             implementation.rank(exchange, &mut lent.memory()).err()
@@ -298,8 +295,9 @@ impl Trial<'_> {
             .note("memory of refused calls", lent == self.before, tell);
     }
 
-    /// Compares the three calls where each is granted, and checks of the drawn
-    /// table, of the docket's and of the ranks.
+    /// Compares the calls on files where each is granted, and checks of the
+    /// drawn table, of the docket's and of the ranks over the words that then
+    /// hold the systems.
     fn compare_granted(&mut self, game: &Game, laid_out: &Lent) {
         let (implementation, exchange) = (self.implementation, self.exchange);
         let (decision, strikes) = game.decide(&[]);

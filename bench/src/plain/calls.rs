@@ -1,8 +1,10 @@
 //! The plain implementation behind the calls that all implementations offer.
 
 use super::arena::{Arena, Exchange as PlainExchange, Pair as PlainPair};
-use super::certificate::{CertificateFault, check_certificate, rank};
-use super::docket::{Cause as PlainCause, Docket, Proposal as PlainProposal, Settlement};
+use super::certificate::{Accepted as PlainAccepted, CertificateFault, check_certificate, rank};
+use super::docket::{
+    Cause as PlainCause, Decision as PlainDecision, Docket, Proposal as PlainProposal, Settlement,
+};
 use super::file::{ReadFault as PlainReadFault, SystemFile, read_system, write_system};
 use super::layers::{Buffer, CodeList, Coded, Joint};
 use super::likeness::{Exact, SeaState, Within};
@@ -11,7 +13,7 @@ use super::stored::Stored;
 use super::system::System;
 use crate::implementation::{
     Accepted, Answer, Call, Cause, Codes, Decision, Exchange, Extra, Failure, Implementation,
-    Layer, Likeness, Memory, Pair, Proposal, Read, ReadFault, Refusal,
+    Layer, Likeness, Memory, Pair, Proposal, Read, ReadFault, Refusal, StoredExchange,
 };
 
 pub struct Plain;
@@ -46,6 +48,24 @@ impl From<CertificateFault> for Failure {
                 Failure::OutOfOrder(refusal.number(), pair.into())
             }
         }
+    }
+}
+
+impl From<PlainDecision> for Decision {
+    fn from(decision: PlainDecision) -> Self {
+        let number = |answer: Result<u32, PlainRefusal>| answer.map_err(PlainRefusal::number);
+        Decision {
+            answers: decision.answers.into_iter().map(number).collect(),
+            swept: decision.swept,
+            standing: decision.standing,
+            replaces: decision.replaces,
+        }
+    }
+}
+
+impl From<PlainAccepted> for Accepted {
+    fn from(PlainAccepted { standing, replaces }: PlainAccepted) -> Self {
+        Accepted { standing, replaces }
     }
 }
 
@@ -294,6 +314,28 @@ macro_rules! with_likeness {
     };
 }
 
+/// Evaluates the body with the arena of the exchange of stored systems, which
+/// is tested before.
+macro_rules! with_stored {
+    ($exchange:expr, |$arena:ident| $body:expr) => {{
+        let exchange: &StoredExchange = $exchange;
+        let tolerances = Likeness::Within(exchange.tolerances);
+        check_tolerances(&tolerances)?;
+        let old = Stored::test(exchange.old_words)
+            .map_err(|refusal| Failure::OldWords(refusal.number()))?;
+        let new = Stored::test(exchange.new_words)
+            .map_err(|refusal| Failure::NewWords(refusal.number()))?;
+        with_likeness!(&tolerances, |likeness| {
+            let $arena = PlainExchange {
+                old: &old,
+                new: &new,
+                likeness: &likeness,
+            };
+            $body
+        })
+    }};
+}
+
 /// Evaluates the body with the arena of the exchange, whose systems have been
 /// laid out.
 macro_rules! with_arena {
@@ -369,13 +411,7 @@ impl Implementation for Plain {
         let decision = with_arena!(exchange, memory, |arena| {
             Docket::new().decide(&arena, memory.table, &proposals)
         })?;
-        let number = |answer: Result<u32, PlainRefusal>| answer.map_err(PlainRefusal::number);
-        Ok(Decision {
-            answers: decision.answers.into_iter().map(number).collect(),
-            swept: decision.swept,
-            standing: decision.standing,
-            replaces: decision.replaces,
-        })
+        Ok(decision.into())
     }
 
     fn run(
@@ -399,10 +435,7 @@ impl Implementation for Plain {
         let accepted = with_arena!(exchange, memory, |arena| {
             check_certificate(&arena, memory.table)
         })?;
-        Ok(Accepted {
-            standing: accepted.standing,
-            replaces: accepted.replaces,
-        })
+        Ok(accepted.into())
     }
 
     fn rank(&self, exchange: &Exchange, memory: &mut Memory) -> Result<u32, Failure> {
@@ -410,5 +443,23 @@ impl Implementation for Plain {
         Ok(with_arena!(exchange, memory, |arena| {
             rank(&arena, memory.table)
         })?)
+    }
+
+    fn decide_words(
+        &self,
+        exchange: StoredExchange,
+        table: &mut [u32],
+    ) -> Result<Decision, Failure> {
+        let decision = with_stored!(&exchange, |arena| Docket::new().decide(&arena, table, &[]))?;
+        Ok(decision.into())
+    }
+
+    fn check_words(&self, exchange: StoredExchange, table: &[u32]) -> Result<Accepted, Failure> {
+        let accepted = with_stored!(&exchange, |arena| check_certificate(&arena, table))?;
+        Ok(accepted.into())
+    }
+
+    fn rank_words(&self, exchange: StoredExchange, table: &mut [u32]) -> Result<u32, Failure> {
+        Ok(with_stored!(&exchange, |arena| rank(&arena, table))?)
     }
 }

@@ -89,13 +89,16 @@ pub struct Stored<'a> {
 }
 
 impl<'a> Stored<'a> {
+    /// The system at the front of the words, or the refusal of the layout check.
+    pub fn test(words: &'a [u16]) -> Result<Self, Refusal> {
+        let length = check_layout(words)?;
+        Ok(Self::over_checked(&words[..length]))
+    }
+
     /// The system at the front of the words, or the resting system where the
     /// layout check refuses them.
     pub fn over(words: &'a [u16]) -> Self {
-        match check_layout(words) {
-            Ok(length) => Self::over_checked(&words[..length]),
-            Err(_) => Self::over_checked(&RESTING),
-        }
+        Self::test(words).unwrap_or_else(|_| Self::over_checked(&RESTING))
     }
 
     fn over_checked(words: &'a [u16]) -> Self {

@@ -1,4 +1,6 @@
 pub mod Bounds
+pub mod Places
 pub mod Refuting
 pub mod Simulation
 pub mod Slots
+pub mod Writing

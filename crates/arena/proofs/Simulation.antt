@@ -74,7 +74,7 @@ faultless_simulation A R range h =
           );
     }
 
--- each struck pair is faulty by the entries from 1 to below its own
+-- each struck pair is faulty by those with smaller numbers
 abbrev pub Ordered : Arena → List ℕ → Type 0
 Ordered A t = (w v : ℕ) → w < A.old_states → v < A.new_states → stands A t w v ≡ false → faulty A (struck A t (Some (entry A t w v))) w v ≡ true
 

@@ -1,12 +1,13 @@
 -- The arena of two systems and a likeness.
 use Rattle.std.specs.Prelude.{ℕ, Bool, ◌&&◌, ◌==◌, nat_le}
 use Rattle.systems.specs.Bounded.{all_below}
+use Rattle.systems.specs.Limits.{max_channels}
 use Rattle.systems.specs.Meaning.{Lawful, Meaning, Reading}
 use Rattle.arena.specs.Arena.{Arena, Closed}
 
--- whether two systems have the same channels, and no more than 8
+-- whether two systems have the same channels, and no more of them than a docket takes
 abbrev pub same_channels : Meaning → Meaning → Bool
-same_channels old new = old.channels == new.channels && nat_le old.channels 8
+same_channels old new = old.channels == new.channels && nat_le old.channels max_channels
 
 -- whether an old state and a new one are alike on every channel
 abbrev pub alike_on_all : Meaning → Meaning → (ℕ → Reading → Reading → Bool) → ℕ → ℕ → Bool

@@ -1,6 +1,9 @@
 pub mod Arena
 pub mod Bounds
+pub mod Entry
 pub mod Exchange
 pub mod Gathered
+pub mod Held
 pub mod Pairs
 pub mod Table
+pub mod Written

@@ -1,11 +1,14 @@
-//! An arena with a table laid over its pairs.
+//! An arena with a table laid over its pairs, to be read.
 ghost use Rattle.std.specs.Prelude.{◌≡◌};
-ghost use Rattle.arena.specs.Table.{entry, start_stands};
+ghost use Rattle.arena.specs.Table.{entry, highest, number_of, number_standing, start_stands, stands};
 
 use crate::arena::Arena;
-use crate::table::{STANDING, entry_of};
+use crate::entry::{number_in, says_standing};
+use crate::table::{entry_at, number_of_pairs, place_of};
 
-/// An arena, and a table of its pairs: which are struck, and which stand.
+/// An arena, and a table of its pairs: which are struck, as which numbers, and which stand.
+///
+/// A pair whose place is past the end of the table stands.
 #[derive_where(Clone, Copy)]
 pub struct Board<'a, A> {
     pub arena: &'a A,
@@ -16,11 +19,27 @@ pub struct Board<'a, A> {
 const START: (u16, u16) = (0, 0);
 
 impl<A: Arena> Board<'_, A> {
-    /// The entry of the pair. A pair whose place is past the end of the table stands.
-    pub fn entry(&self, pair: (u16, u16)) -> u32
+    /// The entry of the pair.
+    pub(crate) fn entry(&self, pair: (u16, u16)) -> u32
         ensures { result ≡ entry (A.Arena.view self.now.arena.now) self.now.table.now pair.0 pair.1 }
     {
-        entry_of(self.table, self.arena.new_states(), pair)
+        entry_at(self.table, place_of(self.arena.new_states(), pair))
+    }
+
+    /// Whether the pair stands.
+    pub fn stands(&self, pair: (u16, u16)) -> bool
+        ensures { result
+            ≡ stands (A.Arena.view self.now.arena.now) self.now.table.now pair.0 pair.1 }
+    {
+        says_standing(self.entry(pair))
+    }
+
+    /// The number as which the pair was struck, 0 where it stands.
+    pub fn number(&self, pair: (u16, u16)) -> u32
+        ensures { result
+            ≡ number_of (A.Arena.view self.now.arena.now) self.now.table.now pair.0 pair.1 }
+    {
+        number_in(self.entry(pair))
     }
 
     /// Whether the pair of the start states stands.
@@ -30,6 +49,31 @@ impl<A: Arena> Board<'_, A> {
         let (old_state, new_state) = START;
         old_state < self.arena.old_states()
             && new_state < self.arena.new_states()
-            && self.entry(START) == STANDING
+            && self.stands(START)
+    }
+
+    /// How many pairs stand.
+    pub fn number_standing(&self) -> u32
+        ensures { result ≡ number_standing (A.Arena.view self.now.arena.now) self.now.table.now }
+    {
+        // by place, here and below, and no chain over the entries: a table may be shorter than there are pairs
+        let mut standing = 0;
+        for place in 0..number_of_pairs(self.arena) {
+            if says_standing(entry_at(self.table, place)) {
+                standing += 1;
+            }
+        }
+        standing
+    }
+
+    /// The highest number as which a pair was struck, 0 where every pair stands.
+    pub fn highest(&self) -> u32
+        ensures { result ≡ highest (A.Arena.view self.now.arena.now) self.now.table.now }
+    {
+        let mut highest = 0;
+        for place in 0..number_of_pairs(self.arena) {
+            highest = number_in(entry_at(self.table, place)).max(highest);
+        }
+        highest
     }
 }

@@ -1,29 +1,26 @@
 //! An arena that asks each question of the arena below once.
 ghost use Rattle.std.specs.Prelude.{◌≡◌, ℕ, ◌+◌, ◌*◌, ◌<◌, ◌≤◌, length, nat_le, IfSome};
+ghost use Rattle.systems.specs.Limits.{max_move_pairs, max_moves, max_states};
 ghost use Rattle.arena.specs.Gathered.{Answers, FewMoves, LeadsTo};
 ghost use Rattle.arena.specs.Table.{pairs};
 
 use crate::arena::Arena;
 use crate::table::number_of_pairs;
-use systems::{MAX_MOVES, MAX_STATES};
-
-// Casts, since no `From` goes into a constant.
+use systems::{MAX_MOVE_PAIRS, MAX_MOVES, MAX_STATES};
 
 /// How many states have a slot.
+// A cast, since no `From` goes into a constant.
 const STATE_SLOTS: usize = MAX_STATES as usize;
 
-/// How many slots the pairs of moves at a state take.
-const PAIR_SLOTS: usize = MAX_MOVES as usize * MAX_MOVES as usize;
-
 /// How many slots the next states take.
-const NEXT_SLOTS: usize = STATE_SLOTS * PAIR_SLOTS;
+const NEXT_SLOTS: usize = STATE_SLOTS * MAX_MOVE_PAIRS;
 
 /// From so many pairs on, a visit of all of them saves more questions than gathering asks.
 const GATHERED_PAIRS: usize = 1_024;
 
 /// Whether it pays to gather the arena for a visit of all its pairs.
 pub fn pays_to_gather<A: Arena>(arena: &A) -> bool
-    ensures { result ≡ nat_le 1024 (pairs (A.Arena.view arena.now)) }
+    ensures { result ≡ nat_le GATHERED_PAIRS (pairs (A.Arena.view arena.now)) }
 {
     number_of_pairs(arena) >= GATHERED_PAIRS
 }
@@ -37,15 +34,15 @@ struct Moves {
     environment: [u16; STATE_SLOTS],
     // of at most 256 states, so that a byte tells each
     next: [u8; NEXT_SLOTS],
-    ghost few_states: { states ≤ 256 },
+    ghost few_states: { states ≤ max_states },
     ghost few_moves: { FewMoves states controller environment },
 }
 
 /// The slot of a pair of moves at a state.
 fn slot_of(state: u16, controller: u16, environment: u16) -> usize
-    ensures { result ≡ state * 256 + controller * 16 + environment }
+    ensures { result ≡ state * max_move_pairs + controller * max_moves + environment }
 {
-    usize::from(state) * PAIR_SLOTS
+    usize::from(state) * MAX_MOVE_PAIRS
         + usize::from(controller) * usize::from(MAX_MOVES)
         + usize::from(environment)
 }
@@ -80,8 +77,8 @@ fn count_few(controller: &[u16], environment: &[u16], states: u16) -> u16
 /// Writes into the slots where each pair of moves leads from each of so many states.
 fn write_next_states<F: Fn(u16, u16, u16) -> u16>(slots: &mut [u8], states: u16, next: F)
     requires callable { F.IsAlwaysCallable next }
-    requires bound { (w a b v : ℕ) → F.post next w a b v → v < 256 }
-    requires room { states * 256 ≤ length slots.old }
+    requires bound { (w a b v : ℕ) → F.post next w a b v → v < max_states }
+    requires room { states * max_move_pairs ≤ length slots.old }
     ensures { (to : ℕ → ℕ → ℕ → ℕ) → ((w a b v : ℕ) → F.post next w a b v → v ≡ to w a b) → LeadsTo to states slots.new }
 {
     for state in 0..states {
@@ -109,7 +106,8 @@ impl Moves {
         requires controller { C.IsAlwaysCallable controller_moves }
         requires environment { E.IsAlwaysCallable environment_moves }
         requires next { N.IsAlwaysCallable next }
-        requires bound { states ≤ 256 → (w a b v : ℕ) → N.post next w a b v → v < 256 }
+        requires bound { states ≤ max_states → (w a b v : ℕ) → N.post next w a b v
+            → v < max_states }
         ensures controller { (p : ℕ → ℕ) → ((w n : ℕ) → C.post controller_moves w n → n ≡ p w) → Answers p result.states result.controller }
         ensures environment { (q : ℕ → ℕ) → ((w n : ℕ) → E.post environment_moves w n → n ≡ q w) → Answers q result.states result.environment }
         ensures next { (to : ℕ → ℕ → ℕ → ℕ) → ((w a b v : ℕ) → N.post next w a b v → v ≡ to w a b) → LeadsTo to result.states result.next }

@@ -3,7 +3,9 @@
 
 mod arena;
 mod board;
+mod board_mut;
 mod cause;
+mod entry;
 mod exchange;
 mod gathered;
 mod refutation;
@@ -11,7 +13,8 @@ mod table;
 
 pub use arena::Arena;
 pub use board::Board;
+pub use board_mut::BoardMut;
 pub use cause::Cause;
 pub use exchange::Exchange;
 pub use gathered::{Gathered, pays_to_gather};
-pub use table::{STANDING, entry_of, number_of_pairs, place_of};
+pub use table::{clear, number_of_pairs};

@@ -1,22 +1,13 @@
 //! The refutation test: which pairs the struck ones refute, and by which move.
 ghost use Rattle.std.specs.Prelude.{◌≡◌, Some, None};
 ghost use Rattle.arena.specs.Pairs.{refuted};
-ghost use Rattle.arena.specs.Table.{counts, struck, least_refuting, cause_of, faulty, in_order, loose};
+ghost use Rattle.arena.specs.Table.{struck, least_refuting, cause_of, faulty, in_order, loose};
 
 use crate::arena::Arena;
 use crate::board::Board;
 use crate::cause::Cause;
-use crate::table::STANDING;
+use crate::entry::{counts, number_in, says_standing};
 use std::ops::Range;
-
-/// Whether the entry counts as struck: any but 0, or only those from 1 to below a number.
-// It is told a number and no closure that decides: contracts of four functions name the pairs that count by that number.
-#[inline(always)]
-fn counts(before: Option<u32>, entry: u32) -> bool
-    ensures { result ≡ counts before entry }
-{
-    entry != STANDING && before.is_none_or(|number| entry < number)
-}
 
 impl<A: Arena> Board<'_, A> {
     /// Whether the pair counts as struck.
@@ -68,9 +59,9 @@ impl<A: Arena> Board<'_, A> {
         self.search(None, pair, moves)
     }
 
-    /// The search where only entries from 1 to below the number count.
+    /// The search where only the pairs struck as smaller numbers count.
     #[inline(never)]
-    fn search_by_entries_before(
+    fn search_by_numbers_before(
         &self,
         number: u32,
         pair: (u16, u16),
@@ -95,7 +86,7 @@ impl<A: Arena> Board<'_, A> {
     {
         match before {
             None => self.search_by_all(pair, moves),
-            Some(number) => self.search_by_entries_before(number, pair, moves),
+            Some(number) => self.search_by_numbers_before(number, pair, moves),
         }
     }
 
@@ -131,18 +122,18 @@ impl<A: Arena> Board<'_, A> {
     pub fn is_loose(&self, pair: (u16, u16)) -> bool
         ensures { result ≡ loose (A.Arena.view self.now.arena.now) self.now.table.now pair.0 pair.1 }
     {
-        self.entry(pair) == STANDING && self.is_faulty(None, pair)
+        self.stands(pair) && self.is_faulty(None, pair)
     }
 
-    /// Whether the pair is in order: a struck one is unlike, or refuted when only the entries from 1 to below its own are taken for struck; a standing one is not loose.
+    /// Whether the pair is in order: a struck one is unlike, or refuted when only the pairs with smaller numbers are taken for struck; a standing one is not loose.
     pub fn is_in_order(&self, pair: (u16, u16)) -> bool
         ensures { result ≡ in_order (A.Arena.view self.now.arena.now) self.now.table.now pair.0 pair.1 }
     {
         let entry = self.entry(pair);
-        if entry == STANDING {
+        if says_standing(entry) {
             !self.is_faulty(None, pair)
         } else {
-            self.is_faulty(Some(entry), pair)
+            self.is_faulty(Some(number_in(entry)), pair)
         }
     }
 }

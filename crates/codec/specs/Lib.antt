@@ -1,2 +1,4 @@
 pub mod Number
 pub mod Filing
+pub mod Sequence
+pub mod Put

@@ -2,6 +2,7 @@
 use Rattle.std.specs.Prelude.{◌≡◌, ℕ, List, ◌++◌, length, Some, None, Ok, Err, string_bytes, codes, decimal, Result, String}
 use Rattle.std.specs.declared.alloc.Global.{Global}
 use Rattle.systems.specs.Layout.{words_taken}
+use Rattle.systems.specs.Limits.{max_channels, max_states}
 use Rattle.systems.specs.Meaning.{Meaning}
 use Rattle.files.specs.SystemFile.{described, file_fault, file_read}
 use Rattle.description.specs.Text.{system_text}
@@ -17,9 +18,9 @@ file_text end given m =
 abbrev pub description : List ℕ → List ℕ
 description bytes = file_text (file_read bytes 0).end (length bytes) (described bytes 0)
 
--- how many words the largest stored system takes: 256 states of 8 channels
+-- how many words the largest stored system takes
 abbrev pub most_words : ℕ
-most_words = words_taken 256 8
+most_words = words_taken max_states max_channels
 
 -- the answer: the description where the file has no fault, else its first fault
 abbrev pub Describes : List ℕ → Result (String Global) DescribeError → Type 0

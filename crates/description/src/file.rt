@@ -8,7 +8,7 @@ use crate::text::Whole;
 use crate::words::laid_out;
 use files::{ReadFault, SystemFile};
 use std::alloc::{AllocError, Global};
-use systems::{MAX_CHANNELS, MAX_STATES, Stored, System, row_place};
+use systems::{MAX_CHANNELS, MAX_STATES, Stored, System, words_taken};
 
 /// Why there is no description of a file.
 // Beside `DescribeInputError`, and no generic error for both: what is refused is of another type, and contracts name the cases.
@@ -48,11 +48,11 @@ fn file_text<S: System>(
     format!(in heap; "read {end} of {given} bytes\n{}", Whole(system))
 }
 
-/// How many words the largest stored system takes: as many as lie before a row past its last.
+/// How many words the largest stored system takes.
 fn most_words() -> usize
     ensures { result ≡ most_words }
 {
-    row_place(MAX_CHANNELS, MAX_STATES)
+    words_taken(MAX_STATES, MAX_CHANNELS)
 }
 
 /// What the system file at the front of the bytes describes, or its first fault.
@@ -63,5 +63,5 @@ pub fn describe(heap: Global, bytes: &[u8]) -> Result<String, DescribeError>
     // before memory is asked for, so that a fault is told whether there is memory or not
     let file = SystemFile::test(bytes, 0, most_words())?;
     let words = laid_out(heap, &file, most_words())?;
-    Ok(file_text(heap, file.end(), bytes.len(), &Stored::new(&words))?)
+    Ok(file_text(heap, file.end(), bytes.len(), &Stored { words: &words })?)
 }

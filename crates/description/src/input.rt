@@ -7,7 +7,7 @@ ghost use Rattle.description.specs.declared.input.DescribeInputError.TheVariants
 use crate::text::Whole;
 use crate::words::laid_out;
 use files::{Record, read_record};
-use report::{InputFault, SYSTEM_ROOM, read_input};
+use report::{InputFault, read_input, system_room};
 use std::alloc::{AllocError, Global};
 use std::fmt;
 use systems::{Stored, System};
@@ -154,12 +154,12 @@ pub fn describe_input(heap: Global, input: &[u8]) -> Result<String, DescribeInpu
 {
     // before memory is asked for, so that a fault is told whether there is memory or not
     let read = read_input(input)?;
-    let old_words = laid_out(heap, &read.old, SYSTEM_ROOM)?;
-    let new_words = laid_out(heap, &read.new, SYSTEM_ROOM)?;
+    let old_words = laid_out(heap, &read.old, system_room())?;
+    let new_words = laid_out(heap, &read.new, system_room())?;
     let parts = Parts {
         tolerance: read.likeness.tolerance(SOME_CHANNEL),
-        old: &Stored::new(&old_words),
-        new: &Stored::new(&new_words),
+        old: &Stored { words: &old_words },
+        new: &Stored { words: &new_words },
         records: Records {
             input,
             place: read.list_place,

@@ -1,7 +1,7 @@
 //! The words that systems are laid out in.
 ghost use Rattle.std.specs.Prelude.{◌≡◌, ◌≤◌, length, vec_len, IfOk};
 ghost use Rattle.files.specs.SystemFile.{described, file_words};
-ghost use Rattle.files.specs.Words.{Holds};
+ghost use Rattle.systems.specs.Layout.{Holds};
 
 use files::SystemFile;
 use std::alloc::{AllocError, Global};

@@ -1,15 +1,16 @@
 -- What an opening establishes, and every call keeps.
-use Rattle.std.proofs.Common.{◌≡◌, ℕ, zero, suc, ◌+◌, ◌*◌, ◌/◌, ◌%◌, ◌<◌, ◌≤◌, Bool, true, false, cond, not, ◌&&◌, eqb, ltb, List, [], ◌∷◌, length, get_or, drop, set, replicate, Some, None, Ok, Err, Option, Result, sym, refl, ap, ◌∙◌, subst, inl, inr, arith}
-use Rattle.std.proofs.lemmas.Nat.{div-mul-add, mod-mul-add, mul-add-lt}
+use Rattle.std.proofs.Common.{◌≡◌, ℕ, zero, suc, ◌+◌, ◌*◌, ◌<◌, ◌≤◌, min, Bool, true, false, cond, not, ◌&&◌, eqb, ltb, List, [], ◌∷◌, length, get_or, drop, set, Some, None, Ok, Err, Option, Result, sym, refl, ap, ◌∙◌, subst, inl, inr, arith}
 use Rattle.std.proofs.lemmas.List.{get_or_append_left, get_or-replicate, get_or-set_other, get_or-set_same, length-append, length-drop, length-replicate, length-set}
 use Rattle.std.proofs.lemmas.Bool.{and_from, and_parts, both_ways, cases_eq, cond_both, eq-eqb, lt-ltb, ne_eqb, not_from_false, not_from_true, not-true, or_cases}
 use Rattle.systems.proofs.Bounded.{or_else_none}
 use Rattle.systems.specs.Refused.{if_granted, unless}
 use Rattle.arena.proofs.Bounds.{count_below_less, count_below_none, count_below_one_more}
+use Rattle.arena.proofs.Places.{place_below, same_pair}
 use Rattle.arena.proofs.Simulation.{Ordered, faulty_more}
 use Rattle.arena.specs.Arena.{Arena, Closed}
 use Rattle.arena.specs.Bounds.{count_below}
 use Rattle.arena.specs.Table.{entry, faulty, loose, pairs, stands, struck}
+use Rattle.arena.specs.Written.{all_standing}
 use Rattle.docket.proofs.Grounds.{caused_faulty, fitting_room, grounds, if_granted_both, openable_fits, opened_in_use}
 use Rattle.docket.specs.Position.{Position, marked, opened}
 use Rattle.docket.specs.Refusals.{misfit, opening_refusal, pair_refusal, strike_refusal, use_refusal}
@@ -37,16 +38,6 @@ pub record Good (A : Arena) (x : Position) : Type 0 where
   pub counted : x.docket.count ≡ count_below (pairs A) (λ i. struck_at x.table i)
   pub ordered : Ordered A x.table
 
--- the index of a pair
-pub place : (A : Arena) (w v : ℕ) → w < A.old_states → v < A.new_states → w * A.new_states + v < pairs A
-place A w v lw lv = omega (arith, mul-add-lt w A.new_states v A.old_states lw lv)
-
-pub same_pair : (A : Arena) (w v a b : ℕ) → v < A.new_states → b < A.new_states → a * A.new_states + b ≡ w * A.new_states + v → (w ≡ a) × (v ≡ b)
-same_pair A w v a b lv lb e = (
-  sym (div-mul-add w A.new_states v lv) ∙ ap (λ i. i / A.new_states) (sym e) ∙ div-mul-add a A.new_states b lb,
-  sym (mod-mul-add w A.new_states v lv) ∙ ap (λ i. i % A.new_states) (sym e) ∙ mod-mul-add a A.new_states b lb,
-)
-
 -- the table of a good position has an entry for each pair
 pub good_room : (A : Arena) (x : Position) → Good A x → pairs A ≤ length x.table
 good_room A x good = fitting_room A (length x.table) (openable_fits A (length x.table) good.openable)
@@ -54,7 +45,7 @@ good_room A x good = fitting_room A (length x.table) (openable_fits A (length x.
 -- and its count is below the number of pairs while one stands
 pub good_count : (A : Arena) (x : Position) → Good A x → (w v : ℕ) → w < A.old_states → v < A.new_states → stands A x.table w v ≡ true → x.docket.count < pairs A
 good_count A x good w v lw lv st =
-    omega (arith, good.counted, count_below_less (pairs A) (w * A.new_states + v) (λ i. struck_at x.table i) (place A w v lw lv) (not_from_true (stands A x.table w v) st))
+    omega (arith, good.counted, count_below_less (pairs A) (w * A.new_states + v) (λ i. struck_at x.table i) (place_below A w v lw lv) (not_from_true (stands A x.table w v) st))
 
 -- a strike of a standing pair leaves the other strikes as they are
 module _ (A : Arena) (x : Position) (w v : ℕ) (st : stands A x.table w v ≡ true) where
@@ -62,6 +53,17 @@ module _ (A : Arena) (x : Position) (w v : ℕ) (st : stands A x.table w v ≡ t
   kept_entry i g =
       get_or-set_other x.table (w * A.new_states + v) i (x.docket.count + 1) 0
       (λ e. both_ways (eqb (get_or x.table (w * A.new_states + v) 0) 0) (subst (λ j. eqb (get_or x.table j 0) 0 ≡ false) e (not-true (eqb (get_or x.table i 0) 0) g)) st)
+
+-- a docket stays in use when a pair is struck
+pub marked_in_use : (A : Arena) (x : Position) (w v : ℕ) → use_refusal A x ≡ None → use_refusal A (marked A x w v) ≡ None
+marked_in_use A x w v used =
+    subst (λ n. cond (not x.docket.is_open) (Some ClosedDocket) (cond (not (eqb x.docket.old_states A.old_states && eqb x.docket.new_states A.new_states)) (Some OtherSizes) (misfit A n)) ≡ None)
+    (sym (length-set x.table (w * A.new_states + v) (x.docket.count + 1))) used
+
+-- and so when a strike is proposed
+pub strike_in_use : (A : Arena) (x : Position) (s : Proposal) → use_refusal A x ≡ None → use_refusal A (strike_does A x s) ≡ None
+strike_in_use A x s used =
+    if_granted_both (λ y. use_refusal A y ≡ None) (strike_refusal A x s) (marked A x s.pair.0 s.pair.1) x (λ _. marked_in_use A x s.pair.0 s.pair.1 used) used
 
 -- a strike of a standing pair that is faulty keeps the position good
 module _ (A : Arena) (c : Closed A) (x : Position) (good : Good A x) (w v : ℕ) (lw : w < A.old_states) (lv : v < A.new_states) (st : stands A x.table w v ≡ true) (bad : faulty A (struck A x.table None) w v ≡ true) where
@@ -75,7 +77,7 @@ module _ (A : Arena) (c : Closed A) (x : Position) (good : Good A x) (w v : ℕ)
   table' = set x.table index number
 
   same : get_or table' index 0 ≡ number
-  same = get_or-set_same x.table index number 0 (omega (arith, place A w v lw lv, good_room A x good))
+  same = get_or-set_same x.table index number 0 (omega (arith, place_below A w v lw lv, good_room A x good))
 
   other : (i : ℕ) → (i ≡ index → ⊥) → get_or table' i 0 ≡ get_or x.table i 0
   other i ne = get_or-set_other x.table index i number 0 ne
@@ -87,7 +89,7 @@ module _ (A : Arena) (c : Closed A) (x : Position) (good : Good A x) (w v : ℕ)
       let k = kept_entry A x w v st (a * A.new_states + b) h in
       and_from (not (eqb (entry A table' a b) 0)) (ltb (entry A table' a b) number)
       (subst (λ n. not (eqb n 0) ≡ true) (sym k) h)
-      (lt-ltb (entry A table' a b) number (omega (arith, k, good.low (a * A.new_states + b) (place A a b la lb)))))
+      (lt-ltb (entry A table' a b) number (omega (arith, k, good.low (a * A.new_states + b) (place_below A a b la lb)))))
       w v bad
 
   still_faulty : (k a b : ℕ) → faulty A (struck A x.table (Some k)) a b ≡ true → faulty A (struck A table' (Some k)) a b ≡ true
@@ -114,13 +116,13 @@ module _ (A : Arena) (c : Closed A) (x : Position) (good : Good A x) (w v : ℕ)
   pub good_marked : Good A (marked A x w v)
   good_marked =
       record {
-        in_use = subst (λ n. cond (not x.docket.is_open) (Some ClosedDocket) (cond (not (eqb x.docket.old_states A.old_states && eqb x.docket.new_states A.new_states)) (Some OtherSizes) (misfit A n)) ≡ None) (sym (length-set x.table index number)) good.in_use;
+        in_use = marked_in_use A x w v good.in_use;
         openable = subst (λ n. opening_refusal A n ≡ None) (sym (length-set x.table index number)) good.openable;
         low = λ i l. elim (cases_eq i index) [
           | inl e ↦ subst (λ j. get_or table' j 0 ≤ number) (sym e) (omega (arith, same))
           | inr e ↦ omega (arith, other i e, good.low i l)
         ];
-        counted = ap (λ n. n + 1) good.counted ∙ sym (count_below_one_more (pairs A) index (λ i. struck_at x.table i) (λ i. struck_at table' i) (place A w v lw lv)
+        counted = ap (λ n. n + 1) good.counted ∙ sym (count_below_one_more (pairs A) index (λ i. struck_at x.table i) (λ i. struck_at table' i) (place_below A w v lw lv)
             (not_from_true (stands A x.table w v) st)
             (not_from_false (eqb (get_or table' index 0) 0) (ne_eqb (get_or table' index 0) 0 (omega (arith, same))))
             (λ k l ne. ap (λ n. not (eqb n 0)) (sym (other k ne))));
@@ -171,8 +173,10 @@ module _ (A : Arena) (x : Position) (h : opening_refusal A (length x.table) ≡ 
 
   zeroes : (i : ℕ) → i < pairs A → get_or (opened A x).table i 0 ≡ 0
   zeroes i l =
-      get_or_append_left (replicate (pairs A) 0) (drop (pairs A) x.table) 0 i (omega (arith, length-replicate {A = ℕ} (pairs A) 0))
-      ∙ get_or-replicate (pairs A) i 0 0 l
+      let room = fitting_room A (length x.table) (openable_fits A (length x.table) h) in
+      let entries = min (pairs A) (length x.table) in
+      get_or_append_left (all_standing entries) (drop (pairs A) x.table) 0 i (omega (arith, room, length-replicate {A = ℕ} entries 0))
+      ∙ get_or-replicate entries i 0 0 (omega (arith, room))
 
   pub good_opened : Good A (opened A x)
   good_opened =
@@ -181,7 +185,7 @@ module _ (A : Arena) (x : Position) (h : opening_refusal A (length x.table) ≡ 
         openable = opened_openable;
         low = λ i l. omega (arith, zeroes i l);
         counted = sym (count_below_none (pairs A) (λ i. struck_at (opened A x).table i) (λ i l. not_from_true (eqb (get_or (opened A x).table i 0) 0) (eq-eqb (get_or (opened A x).table i 0) 0 (zeroes i l))));
-        ordered = λ w v lw lv g. absurd (both_ways (stands A (opened A x).table w v) g (eq-eqb (entry A (opened A x).table w v) 0 (zeroes (w * A.new_states + v) (place A w v lw lv))));
+        ordered = λ w v lw lv g. absurd (both_ways (stands A (opened A x).table w v) g (eq-eqb (entry A (opened A x).table w v) 0 (zeroes (w * A.new_states + v) (place_below A w v lw lv))));
       }
 
 -- an answer of another call is not that of an opening

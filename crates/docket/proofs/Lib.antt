@@ -4,4 +4,3 @@ pub mod Grounds
 pub mod Laws
 pub mod Refused
 pub mod Runs
-pub mod Steps

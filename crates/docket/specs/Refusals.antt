@@ -1,6 +1,7 @@
 -- Which calls are refused, and why.
 use Rattle.std.specs.Prelude.{ℕ, Bool, cond, not, ◌&&◌, ◌||◌, List, length, Some, None, Option, ◌==◌, nat_le, nat_lt}
 use Rattle.systems.specs.Bounded.{all_below, or_else}
+use Rattle.systems.specs.Limits.{max_moves, max_states}
 use Rattle.arena.specs.Arena.{Arena}
 use Rattle.arena.specs.Pairs.{refutes}
 use Rattle.arena.specs.Table.{pairs, stands, struck}
@@ -28,11 +29,12 @@ refusal_number Full = 12
 
 -- whether either system has more states than a docket holds
 abbrev pub too_many_states : Arena → Bool
-too_many_states A = nat_lt 256 A.old_states || nat_lt 256 A.new_states
+too_many_states A = nat_lt max_states A.old_states || nat_lt max_states A.new_states
 
--- whether both sides have at most 16 moves at each state
+-- whether neither side has too many moves at any state
 abbrev pub few_moves : ℕ → (ℕ → ℕ) → (ℕ → ℕ) → Bool
-few_moves states controller_moves environment_moves = all_below states λ w. nat_le (controller_moves w) 16 && nat_le (environment_moves w) 16
+few_moves states controller_moves environment_moves =
+    all_below states λ w. nat_le (controller_moves w) max_moves && nat_le (environment_moves w) max_moves
 
 -- whether that holds of both systems
 abbrev pub few_moves_in_both : Arena → Bool

@@ -1,14 +1,12 @@
 //! The certificate check: whether a table, whoever wrote it, shows the largest simulation.
-ghost use Rattle.std.specs.Prelude.{◌≡◌, ◌≤◌, length};
+ghost use Rattle.std.specs.Prelude.{◌≡◌};
 ghost use Rattle.systems.specs.Refused.{unless};
-ghost use Rattle.arena.specs.Table.{pairs};
 ghost use Rattle.docket.specs.Certificate.{Certifies, certificate, certificate_says, fault_number, first_fault, pair_fault};
 ghost use Rattle.docket.specs.declared.certificate.CertificateFault.TheVariants.{Refused};
 
 use crate::fit::check_opening;
 use crate::refusal::Refusal;
-use crate::table::number_standing;
-use arena::{Arena, Board, Gathered, STANDING, pays_to_gather};
+use arena::{Arena, Board, Gathered, pays_to_gather};
 
 /// What a table that is accepted shows.
 #[derive(Clone, Copy, Debug, PartialEq, Eq)]
@@ -32,7 +30,7 @@ const LOOSE: u8 = 14;
 pub enum CertificateFault {
     /// The systems or the table do not serve.
     Refused(Refusal),
-    /// This struck pair, the first pair out of order, is not unlike, and no move refutes it by smaller entries.
+    /// This struck pair, the first pair out of order, is not unlike, and no move refutes it by pairs with smaller numbers.
     Unfounded((u16, u16)),
     /// This standing pair, the first pair out of order, is loose.
     Loose((u16, u16)),
@@ -66,7 +64,7 @@ fn check_pair<A: Arena>(board: &Board<'_, A>, pair: (u16, u16)) -> Result<(), Ce
     if board.is_in_order(pair) {
         return Ok(());
     }
-    if board.entry(pair) == STANDING {
+    if board.stands(pair) {
         Err(CertificateFault::Loose(pair))
     } else {
         Err(CertificateFault::Unfounded(pair))
@@ -88,14 +86,11 @@ fn check_pairs<A: Arena>(board: &Board<'_, A>) -> Result<(), CertificateFault>
 
 /// Tests the pairs in turn.
 fn examine_pairs<A: Arena>(board: &Board<'_, A>) -> Result<Certificate, CertificateFault>
-    requires old { (A.Arena.view board.now.arena.now).old_states ≤ 256 }
-    requires new { (A.Arena.view board.now.arena.now).new_states ≤ 256 }
-    requires space { pairs (A.Arena.view board.now.arena.now) ≤ length board.now.table.now }
     ensures { result ≡ unless (first_fault (A.Arena.view board.now.arena.now) board.now.table.now) (certificate (A.Arena.view board.now.arena.now) board.now.table.now) }
 {
     check_pairs(board)?;
     Ok(Certificate {
-        standing: number_standing(board),
+        standing: board.number_standing(),
         replaces: board.start_stands(),
     })
 }
@@ -104,9 +99,6 @@ fn examine_pairs<A: Arena>(board: &Board<'_, A>) -> Result<Certificate, Certific
 // By itself, since only a call that gathers needs the stack for it.
 #[inline(never)]
 fn examine_gathered<A: Arena>(board: &Board<'_, A>) -> Result<Certificate, CertificateFault>
-    requires old { (A.Arena.view board.now.arena.now).old_states ≤ 256 }
-    requires new { (A.Arena.view board.now.arena.now).new_states ≤ 256 }
-    requires space { pairs (A.Arena.view board.now.arena.now) ≤ length board.now.table.now }
     ensures { result ≡ unless (first_fault (A.Arena.view board.now.arena.now) board.now.table.now) (certificate (A.Arena.view board.now.arena.now) board.now.table.now) }
 {
     examine_pairs(&Board {
@@ -127,7 +119,7 @@ fn examine<A: Arena>(board: &Board<'_, A>) -> Result<Certificate, CertificateFau
     }
 }
 
-/// Checks a table, whoever wrote it: every struck pair must be unlike or refuted by smaller entries, and no standing pair loose.
+/// Checks a table, whoever wrote it: every struck pair must be unlike or refuted by pairs with smaller numbers, and no standing pair loose.
 ///
 /// Accepts, or names the first pair out of order. The standing pairs of an accepted table are the largest simulation, so that it tells whether the new system replaces the old.
 pub fn check_certificate<A: Arena>(

@@ -1,5 +1,6 @@
 //! The docket.
 ghost use Rattle.std.specs.Prelude.{◌*◌, ◌≤◌};
+ghost use Rattle.systems.specs.Limits.{max_states};
 
 use std::marker::Model;
 
@@ -19,8 +20,8 @@ struct Ledger {
     // how many states the new system has, and so how many columns the table
     columns: u16,
     count: u32,
-    ghost few_rows: { rows ≤ 256 },
-    ghost few_columns: { columns ≤ 256 },
+    ghost few_rows: { rows ≤ max_states },
+    ghost few_columns: { columns ≤ max_states },
     ghost few_strikes: { count ≤ rows * columns },
 }
 

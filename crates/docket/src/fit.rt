@@ -1,5 +1,6 @@
 //! Whether two systems and a table serve a docket.
 ghost use Rattle.std.specs.Prelude.{◌≡◌, ◌≤◌, ℕ, OnOk};
+ghost use Rattle.systems.specs.Limits.{max_states};
 ghost use Rattle.systems.specs.Refused.{unless};
 ghost use Rattle.arena.specs.Table.{pairs};
 ghost use Rattle.docket.specs.Refusals.{few_moves, few_moves_in_both, misfit, opening_refusal};
@@ -56,8 +57,8 @@ pub(crate) fn check_fit<A: Arena>(arena: &A, entries: usize) -> Result<(), Refus
 /// Checks that a docket can be opened for the systems, with a table of so many entries.
 pub fn check_opening<A: Arena>(arena: &A, entries: usize) -> Result<(), Refusal>
     ensures answer { result ≡ unless (opening_refusal (A.Arena.view arena.now) entries) tt }
-    ensures old { OnOk result ((A.Arena.view arena.now).old_states ≤ 256) }
-    ensures new { OnOk result ((A.Arena.view arena.now).new_states ≤ 256) }
+    ensures old { OnOk result ((A.Arena.view arena.now).old_states ≤ max_states) }
+    ensures new { OnOk result ((A.Arena.view arena.now).new_states ≤ max_states) }
     ensures space { OnOk result (pairs (A.Arena.view arena.now) ≤ entries) }
 {
     if arena.old_states() > MAX_STATES || arena.new_states() > MAX_STATES {

@@ -9,7 +9,6 @@ mod fit;
 mod outcome;
 mod refusal;
 mod strike;
-mod table;
 
 pub use call::{Call, Grant};
 pub use certificate::{Certificate, CertificateFault, check_certificate};

@@ -1,28 +1,26 @@
 -- Bytes that spell a system are read to that system.
 use Rattle.std.proofs.Common.{◌≡◌, ℕ, zero, suc, ◌+◌, ◌-◌, ◌*◌, ◌/◌, ◌%◌, ◌<◌, ◌≤◌, List, ◌∷◌, length, None, sym, refl, ap, ◌∙◌, subst, inl, inr, mod-lt, div-lt_iff_lt-mul, mul-zero, div-add-mod', below_more, arith}
-use Rattle.std.proofs.lemmas.Bool.Decides.{nat_tests}
 use Rattle.std.proofs.lemmas.Bool.{cases_lt}
-use Rattle.codec.specs.Filing.{filed}
+use Rattle.codec.specs.Filing.{filed, unfiled}
 use Rattle.codec.proofs.Filed.{unfiled-filed}
 use Rattle.systems.specs.Layout.{words_taken}
 use Rattle.systems.specs.Meaning.{Meaning, Lawful}
 use Rattle.files.specs.Flattening.{readings_flattened, next_flattened, row_flattened, rows_flattened, flattened}
 use Rattle.files.specs.Few.{Few}
-use Rattle.files.specs.Sequence.{value_at, after, skip, nth, Spells}
-use Rattle.files.specs.SystemFile.{unread, controller_place, environment_place, next_place, next_numbers, row_end, row_start, states_at, channels_at, rows_place, row_at, described}
+use Rattle.codec.specs.Sequence.{value_at, after, skip, nth, Spells}
+use Rattle.files.specs.SystemFile.{unread, controller_place, environment_place, next_place, next_numbers, row_end, row_start, states_at, channels_at, rows_place, row_at, file_row, file_rows, described}
 use Rattle.files.specs.SystemWrite.{ReadsBack}
-use Rattle.files.proofs.Held.{same_meaning}
+use Rattle.systems.specs.Rows.{RowMeaning, of_rows, row_of}
+use Rattle.systems.proofs.Held.{SameRow, of_rows-row_of, of_rows-same}
 use Rattle.files.proofs.Tested.{RowTested, FileTested, file_fault_from}
-use Rattle.files.proofs.Unspelled.{Here, One, spells_split, unspell_one, unspell_listed, unspell_rows_of}
+use Rattle.codec.proofs.Spelled.{spells_split}
+use Rattle.files.proofs.Unspelled.{Here, One, unspell_one, unspell_listed, unspell_rows_of}
 
 module _ (m : Meaning) (law : Lawful m) (few : Few m) (bytes : List ℕ) where
   -- a row that is read to state w
   record RowIs (n c w start : ℕ) : Type 0 where
     tested : RowTested bytes n c w start
-    controller : value_at bytes (controller_place bytes c start) ≡ m.controller_moves w
-    environment : value_at bytes (environment_place bytes c start) ≡ m.environment_moves w
-    reading : (k : ℕ) → k < c → nth bytes k start ≡ filed (m.reading w k)
-    next : (a b : ℕ) → a < m.controller_moves w → b < m.environment_moves w → nth bytes (a * m.environment_moves w + b) (next_place bytes c start) ≡ m.next w a b
+    same : SameRow c (file_row bytes c start) (row_of m w)
 
   unspell_row : (w start : ℕ) (from rest : List ℕ) → w < m.states → Here bytes start from → Spells (row_flattened m w) from rest
       → RowIs m.states m.channels w start × Here bytes (row_end bytes m.channels start) rest
@@ -57,10 +55,14 @@ module _ (m : Meaning) (law : Lawful m) (few : Few m) (bytes : List ℕ) where
                   high = omega (arith, value, law.next_bound w a b);
                 };
           };
-          controller = one_p.value;
-          environment = one_q.value;
-          reading = readings.value;
-          next = rows.value;
+          same = record {
+            reading = λ k h. ap unfiled (readings.value k h) ∙ unfiled-filed (m.reading w k);
+            controller_moves = one_p.value;
+            environment_moves = one_q.value;
+            next = λ a b low high.
+                subst (λ x. nth bytes (a * x + b) (next_place bytes c start) ≡ m.next w a b) (sym one_q.value)
+                (rows.value a b (omega (arith, one_p.value)) (omega (arith, one_q.value)));
+          };
         },
         subst (λ k. Here bytes (skip bytes k (next_place bytes c start)) rest) (sym count) rows.behind,
       )
@@ -111,35 +113,14 @@ module _ (m : Meaning) (law : Lawful m) (few : Few m) (bytes : List ℕ) where
       rows = λ w l. (rows_are.0 w l).tested;
     }
 
-    -- each answer that was read
-    controller_read : (w : ℕ) → w < states_at bytes 0 → value_at bytes (controller_place bytes (channels_at bytes 0) (row_at bytes 0 w)) ≡ m.controller_moves w
-    controller_read w l = (rows_are.0 w l).controller
-
-    environment_read : (w : ℕ) → w < states_at bytes 0 → value_at bytes (environment_place bytes (channels_at bytes 0) (row_at bytes 0 w)) ≡ m.environment_moves w
-    environment_read w l = (rows_are.0 w l).environment
-
-    reading_read : (w k : ℕ) → w < states_at bytes 0 → k < channels_at bytes 0 → nth bytes k (row_at bytes 0 w) ≡ filed (m.reading w k)
-    reading_read w k l h = (rows_are.0 w l).reading k h
-
-    next_read : (w a b : ℕ) → w < states_at bytes 0 → a < m.controller_moves w → b < m.environment_moves w
-        → nth bytes (a * m.environment_moves w + b) (next_place bytes (channels_at bytes 0) (row_at bytes 0 w)) ≡ m.next w a b
-    next_read w a b l f g = (rows_are.0 w l).next a b f g
-
     same : described bytes 0 ≡ m
     unfolding described
     same =
-        let n : ℕ = states_at bytes 0 in
-        let c : ℕ = channels_at bytes 0 in
-        let p : ℕ → ℕ = (described bytes 0).controller_moves in
-        let q : ℕ → ℕ = (described bytes 0).environment_moves in
-        let n_is : n ≡ m.states = states_read.value in
-        let c_is : c ≡ m.channels = channels_read.value in
-        let controller : (w : ℕ) → p w ≡ m.controller_moves w = λ w. grind (arith, nat_tests, controller_read, law.no_state_controller) in
-        let environment : (w : ℕ) → q w ≡ m.environment_moves w = λ w. grind (arith, nat_tests, environment_read, law.no_state_environment) in
-        same_meaning (described bytes 0) m n_is c_is
-        (λ w k. grind (arith, nat_tests, reading_read, unfiled-filed, law.no_state_reading, law.no_channel_reading))
-        controller environment
-        (λ w a b. grind (arith, nat_tests, next_read, controller, environment, law.no_state_controller, law.no_controller_next, law.no_environment_next))
+        let rows : ℕ → ℕ → RowMeaning = λ c. file_rows bytes c (rows_place bytes 0) in
+        ap (λ n. of_rows n (channels_at bytes 0) (rows (channels_at bytes 0))) states_read.value
+        ∙ ap (λ c. of_rows m.states c (rows c)) channels_read.value
+        ∙ of_rows-same m.states m.channels (rows m.channels) (row_of m) (λ w l. (rows_read.0 w l).same)
+        ∙ of_rows-row_of m law
 
     pub reads_back : ReadsBack m bytes (length bytes - length rest)
     reads_back = record {

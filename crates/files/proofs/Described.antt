@@ -1,22 +1,25 @@
 -- The system that a file without a fault describes: its answers, that it has a layout, and that the file is just its numbers.
-use Rattle.std.proofs.Common.{◌≡◌, ℕ, zero, suc, ◌+◌, ◌*◌, ◌/◌, ◌%◌, ◌<◌, ◌≤◌, eqb, ltb, List, ◌∷◌, ◌++◌, length, get_or, drop, pos, negsuc, None, Ok, sym, refl, ap, ◌∙◌, subst, inl, inr, mul_comm, arith}
+use Rattle.std.proofs.Common.{◌≡◌, ℕ, zero, suc, ◌+◌, ◌*◌, ◌/◌, ◌%◌, ◌<◌, ◌≤◌, eqb, List, ◌∷◌, ◌++◌, drop, pos, negsuc, None, Ok, sym, refl, ap, ◌∙◌, subst, mul_comm, arith}
 use Rattle.std.proofs.lemmas.Nat.{mul-add-lt}
 use Rattle.std.proofs.lemmas.Int.{ints}
 use Rattle.std.proofs.lemmas.Bool.Decides.{nat_tests}
-use Rattle.std.proofs.lemmas.Bool.{cases_Bool, cond_both, lt-ltb}
+use Rattle.std.proofs.lemmas.Bool.{cond_both}
 use Rattle.codec.specs.Filing.{filed, unfiled}
 use Rattle.codec.specs.Number.{number}
 use Rattle.codec.proofs.Filed.{filed-unfiled}
 use Rattle.systems.specs.Bounded.{joined_below, listed_below}
-use Rattle.systems.specs.Layout.{row_words, row_place, words_taken, stored, unbiased}
+use Rattle.systems.specs.Layout.{Holds, biased, stored, unbiased}
 use Rattle.systems.specs.Meaning.{Meaning}
 use Rattle.files.specs.Few.{Few}
 use Rattle.files.specs.Flattening.{row_flattened, flattened, ReadsAsFiled}
-use Rattle.files.specs.Sequence.{value_at, skip, nth, Spells}
-use Rattle.files.specs.SystemFile.{controller_place, environment_place, next_place, next_numbers, row_end, states_at, channels_place, channels_at, rows_place, row_at, file_fault, described}
-use Rattle.files.specs.Words.{biased, row_word, system_words, row_cell}
-use Rattle.files.proofs.Held.{Storable, by_rows, held, held_laid_out}
-use Rattle.files.proofs.Spelled.{read_at, value_bound, Spells-append, spells_listed, spells_rows_of}
+use Rattle.codec.specs.Sequence.{value_at, skip, nth, Spells}
+use Rattle.files.specs.SystemFile.{controller_place, environment_place, next_place, next_numbers, row_end, states_at, channels_place, channels_at, rows_place, row_at, file_fault, file_rows, described}
+use Rattle.systems.specs.Limits.{max_moves}
+use Rattle.systems.specs.Rows.{of_rows}
+use Rattle.systems.specs.Words.{system_words}
+use Rattle.systems.proofs.Held.{Storable, StorableRow, held}
+use Rattle.codec.proofs.Spelled.{value_bound, Spells-append}
+use Rattle.files.proofs.Spelled.{read_at, spells_listed, spells_rows_of}
 use Rattle.files.proofs.Tested.{RowTested, FileTested, file_tested}
 
 -- a row spells the numbers that it was read to
@@ -47,6 +50,12 @@ unfiled_held : (v : ℕ) → v < 65536 → unbiased (biased (unfiled v)) ≡ unf
 unfiled_held v h =
     cond_both (eqb (v % 2) 0) (pos (v / 2)) (negsuc (v / 2)) (λ z. unbiased (biased z) ≡ z)
     (λ _. omega (arith, ints)) (λ _. omega (arith, ints))
+
+-- the system is that of the file's rows
+pub described_is : (bytes : List ℕ) (place : ℕ)
+    → of_rows (states_at bytes place) (channels_at bytes place) (file_rows bytes (channels_at bytes place) (rows_place bytes place)) ≡ described bytes place
+unfolding described
+described_is bytes place = refl
 
 module _ (bytes : List ℕ) (place : ℕ) where
   n : ℕ
@@ -79,25 +88,6 @@ module _ (bytes : List ℕ) (place : ℕ) where
   unfolding described n c start m
   next_in w a b l f g = grind (arith, nat_tests)
 
-  -- the words of its layout
-  pub row_is : (w j : ℕ) → w < states_at bytes place → row_word (described bytes place) w j ≡ row_cell bytes (channels_at bytes place) (row_at bytes place w) j
-  unfolding described
-  row_is w j l =
-      elim (cases_Bool (ltb j (channels_at bytes place))) [
-        | inl front ↦ rw (lt-ltb w (states_at bytes place) l, front) refl
-        | inr behind ↦ rw (lt-ltb w (states_at bytes place) l, behind) refl
-      ]
-
-  -- words that hold the two counts and the rows are that layout
-  pub words_are : (words : List ℕ) → length words ≡ words_taken (states_at bytes place) (channels_at bytes place)
-      → get_or words 0 0 ≡ states_at bytes place → get_or words 1 0 ≡ channels_at bytes place
-      → ((w j : ℕ) → w < states_at bytes place → j < row_words (channels_at bytes place)
-      → get_or words (row_place (channels_at bytes place) w + j) 0 ≡ row_cell bytes (channels_at bytes place) (row_at bytes place w) j)
-      → words ≡ system_words (described bytes place)
-  unfolding described
-  words_are words long states channels rows =
-      by_rows (described bytes place) words long states channels (λ w j l h. rows w j l h ∙ sym (row_is w j l))
-
   module _ (room : ℕ) (ok : FileTested bytes place room) where
     some_states : 1 ≤ n
     unfolding n
@@ -123,50 +113,55 @@ module _ (bytes : List ℕ) (place : ℕ) where
       (drop (rows_place bytes place) bytes, read_at bytes (channels_place bytes place) 0 ok.channels.read, rows_spelled n (omega arith)),
     )
 
-    next_fits : (w a b : ℕ) → w < n → a < m.controller_moves w → b < m.environment_moves w → m.next w a b < n
-    unfolding n c start m
-    next_fits w a b l f g =
-        let p : ℕ = m.controller_moves w in
-        let q : ℕ = m.environment_moves w in
-        let count : q * p ≡ next_numbers bytes c (start w) =
-        mul_comm q p ∙ ap (λ x. x * q) (controller_in w l) ∙ ap (λ x. value_at bytes (controller_place bytes c (start w)) * x) (environment_in w l) in
-        let there : a * q + b < next_numbers bytes c (start w) = subst (λ x. a * q + b < x) count (mul-add-lt a q b p f g) in
-        let most = ((ok.rows w l).next (a * q + b) there).high in
-        omega (arith, next_in w a b l f g, some_states)
+    -- its rows lie in words
+    row_storable : (w : ℕ) → w < n → StorableRow n c (file_rows bytes c (rows_place bytes place) w)
+    unfolding n c start
+    row_storable w l =
+        let row = ok.rows w l in
+        let p : ℕ = value_at bytes (controller_place bytes c (start w)) in
+        let q : ℕ = value_at bytes (environment_place bytes c (start w)) in record {
+          some_controller_move = row.controller.low;
+          few_controller_moves = row.controller.high;
+          some_environment_move = row.environment.low;
+          few_environment_moves = row.environment.high;
+          reading_held = λ k h. unfiled_held (nth bytes k (start w)) (value_bound bytes (skip bytes k (start w)));
+          next_bound = λ a b f g.
+              let there : a * q + b < next_numbers bytes c (start w) = subst (λ x. a * q + b < x) (mul_comm q p) (mul-add-lt a q b p f g) in
+              omega (arith, (row.next (a * q + b) there).high, some_states);
+        }
 
-    pub storable : Storable (described bytes place)
-    unfolding described n c start m
+    storable : Storable n c (file_rows bytes c (rows_place bytes place))
+    unfolding n c
     storable = record {
-      few = record {
-        few_states = ok.states.high;
-        few_channels = ok.channels.high;
-        few_controller_moves = λ w l. subst (λ x. x ≤ 16) (sym (controller_in w l)) (ok.rows w l).controller.high;
-        few_environment_moves = λ w l. subst (λ x. x ≤ 16) (sym (environment_in w l)) (ok.rows w l).environment.high;
-      };
       some_state = ok.states.low;
+      few_states = ok.states.high;
       some_channel = ok.channels.low;
-      some_controller_move = λ w l. subst (λ x. 1 ≤ x) (sym (controller_in w l)) (ok.rows w l).controller.low;
-      some_environment_move = λ w l. subst (λ x. 1 ≤ x) (sym (environment_in w l)) (ok.rows w l).environment.low;
-      next_bound = next_fits;
-      reading_held = λ w k l h. subst (λ z. unbiased (biased z) ≡ z) (sym (reading_in w k l h)) (unfiled_held (nth bytes k (start w)) (value_bound bytes (skip bytes k (start w))));
-      no_reading = λ w k out. grind (arith, nat_tests);
-      no_controller_move = λ w h. grind (arith, nat_tests);
-      no_environment_move = λ w h. grind (arith, nat_tests);
-      no_next = λ w a b out. grind (arith, nat_tests);
+      few_channels = ok.channels.high;
+      each_row = row_storable;
     }
 
-    -- its layout, with whatever words behind it, holds it
-    pub layout_holds : (rest : List ℕ) → stored (system_words (described bytes place) ++ rest) ≡ described bytes place
-    layout_holds rest = held (described bytes place) storable rest
+    -- so its layout holds it, whatever words follow
+    layout_holds : (rest : List ℕ) → Holds (described bytes place) (system_words (described bytes place) ++ rest)
+    unfolding described n c
+    layout_holds rest = held n c (file_rows bytes c (rows_place bytes place)) storable rest
 
     -- and reads as filed
-    pub reads_as_filed : (rest : List ℕ) → ReadsAsFiled bytes place (row_at bytes place (states_at bytes place)) (system_words (described bytes place) ++ rest)
-    reads_as_filed rest =
-        let to : List ℕ = drop (row_at bytes place (states_at bytes place)) bytes in (
-          held_laid_out (described bytes place) storable rest,
-          subst (λ x. Spells (flattened x) (drop place bytes) to) (sym (layout_holds rest)) file_spelled,
-        )
+    pub reads_as_filed : (words rest : List ℕ) → words ≡ system_words (described bytes place) ++ rest
+        → (stored words ≡ described bytes place) × ReadsAsFiled bytes place (row_at bytes place (states_at bytes place)) words
+    reads_as_filed words rest is =
+        let to : List ℕ = drop (row_at bytes place (states_at bytes place)) bytes in
+        let holds = subst (Holds (described bytes place)) (sym is) (layout_holds rest) in
+        (holds.1, (holds.0, subst (λ x. Spells (flattened x) (drop place bytes) to) (sym holds.1) file_spelled))
+
+    pub small : Few (described bytes place)
+    unfolding described n c start m
+    small = record {
+      few_states = ok.states.high;
+      few_channels = ok.channels.high;
+      few_controller_moves = λ w l. subst (λ x. x ≤ max_moves) (sym (controller_in w l)) (ok.rows w l).controller.high;
+      few_environment_moves = λ w l. subst (λ x. x ≤ max_moves) (sym (environment_in w l)) (ok.rows w l).environment.high;
+    }
 
 -- a file without a fault describes a system that is small enough for a file
 pub few : (bytes : List ℕ) (place room : ℕ) → file_fault bytes place room ≡ None → Few (described bytes place)
-few bytes place room none = (storable bytes place room (file_tested bytes place room none)).few
+few bytes place room none = small bytes place room (file_tested bytes place room none)

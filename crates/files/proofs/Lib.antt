@@ -1,13 +1,8 @@
 pub mod Complete
 pub mod Described
 pub mod Faults
-pub mod Forward
-pub mod Grid
-pub mod Held
-pub mod Parts
-pub mod Behind
+pub mod FileSize
 pub mod Puts
-pub mod Skips
 pub mod Spelled
 pub mod Tested
 pub mod Unspelled

@@ -1,46 +1,20 @@
--- Numbers that were read one behind the other spell a list.
-use Rattle.std.proofs.Common.{◌≡◌, ℕ, zero, suc, ◌+◌, ◌-◌, ◌*◌, ◌<◌, List, [], ◌∷◌, ◌++◌, length, drop, None, Ok, Err, Result, sym, refl, ap, ◌∙◌, subst, suc-mul, zero-mul, arith, lit<, length-drop}
-use Rattle.std.proofs.lemmas.Grind.{common_steps}
-use Rattle.std.proofs.lemmas.List.{drop-drop, drop_all}
-use Rattle.std.specs.Result.{result_unwrap_or}
+-- Numbers of a file that were read one behind the other spell a list.
+use Rattle.std.proofs.Common.{◌≡◌, ℕ, zero, suc, ◌+◌, ◌*◌, ◌<◌, true, is_ok, List, [], ◌∷◌, drop, None, Ok, Err, Result, sym, refl, ap, ◌∙◌, subst, suc-mul, zero-mul, arith}
 use Rattle.codec.specs.Number.{number}
+use Rattle.codec.specs.Sequence.{number_at, value_at, after, skip, nth, Spells}
 use Rattle.codec.specs.declared.number.NumberFault.{NumberFault}
-use Rattle.codec.proofs.Found.{number_found}
+use Rattle.codec.proofs.Skips.{skip-skip}
+use Rattle.codec.proofs.Spelled.{Spells-append, read_where_ok}
 use Rattle.systems.specs.Bounded.{joined_below, listed_below}
-use Rattle.files.specs.Sequence.{placed, value_at, after, skip, nth, Spells}
 use Rattle.files.specs.SystemFile.{unread, unread_by}
-use Rattle.files.proofs.Skips.{skip-skip}
 
--- an end of the bytes is what is left from the place that its length tells
-from_place : (bytes rest : List ℕ) (k : ℕ) → rest ≡ drop k bytes → rest ≡ drop (length bytes - length rest) bytes
-from_place bytes rest k e = grind (arith, common_steps, drop_all, length-drop)
-
-read_by : (bytes : List ℕ) (place w : ℕ) (r : Result (ℕ × List ℕ) NumberFault) → number (drop place bytes) ≡ r → unread_by place w (placed bytes r) ≡ None
-    → r ≡ Ok ((result_unwrap_or (placed bytes r) (0, place)).0, drop (result_unwrap_or (placed bytes r) (0, place)).1 bytes)
-read_by bytes place w (Ok found) h none =
-    let s = number_found found.0 (drop place bytes) found.1 h in
-    let rest = from_place bytes found.1 (place + s.taken) (s.left ∙ drop-drop s.taken place bytes) in
-    let with_rest : List ℕ → Result (ℕ × List ℕ) NumberFault = λ rest. Ok (found.0, rest) in
-    ap with_rest rest
-read_by bytes place w (Err why) h none = absurd cc
+no_fault : (place w : ℕ) (r : Result (ℕ × ℕ) NumberFault) → unread_by place w r ≡ None → is_ok r ≡ true
+no_fault place w (Ok found) h = refl
+no_fault place w (Err why) h = absurd cc
 
 -- a number without a fault is read off the bytes from its place on
 pub read_at : (bytes : List ℕ) (place w : ℕ) → unread bytes place w ≡ None → number (drop place bytes) ≡ Ok (value_at bytes place, drop (after bytes place) bytes)
-unfolding value_at after
-read_at bytes place w none = read_by bytes place w (number (drop place bytes)) refl none
-
-value_bound_by : (bytes : List ℕ) (place : ℕ) (r : Result (ℕ × List ℕ) NumberFault) → number (drop place bytes) ≡ r → (result_unwrap_or (placed bytes r) (0, place)).0 < 65536
-value_bound_by bytes place (Ok found) h = (number_found found.0 (drop place bytes) found.1 h).bound
-value_bound_by bytes place (Err why) h = lit< tt
-
--- numbers that are read have 16 bits
-pub value_bound : (bytes : List ℕ) (place : ℕ) → value_at bytes place < 65536
-unfolding value_at
-value_bound bytes place = value_bound_by bytes place (number (drop place bytes)) refl
-
-pub Spells-append : (ns ms bytes mid rest : List ℕ) → Spells ns bytes mid → Spells ms mid rest → Spells (ns ++ ms) bytes rest
-Spells-append [] ms bytes mid rest front back = subst (λ xs. Spells ms xs rest) (sym front) back
-Spells-append (n ∷ ns) ms bytes mid rest front back = (front.0, front.1, Spells-append ns ms front.0 mid rest front.2 back)
+read_at bytes place w none = read_where_ok bytes place (no_fault place w (number_at bytes place) none)
 
 -- one number
 pub spells_one : (bytes : List ℕ) (place w n : ℕ) → unread bytes place w ≡ None → n ≡ value_at bytes place → Spells (n ∷ []) (drop place bytes) (drop (after bytes place) bytes)
@@ -74,16 +48,3 @@ spells_rows_of bytes w start q (suc p) gives read same =
       subst (λ place. unread bytes place w ≡ None) (skip-skip bytes (p * q) j start) (read (p * q + j) (omega arith)),
       same p j (omega arith) l ∙ ap (value_at bytes) (skip-skip bytes (p * q) j start),
     )))
-
--- a number at the front of the bytes from a place on, by its place
-pub from_read : (bytes : List ℕ) (place w n : ℕ) (rest : List ℕ) → number (drop place bytes) ≡ Ok (n, rest)
-    → (unread bytes place w ≡ None) × (value_at bytes place ≡ n) × (after bytes place ≡ length bytes - length rest) × (rest ≡ drop (after bytes place) bytes)
-unfolding value_at after
-from_read bytes place w n rest h =
-    let found = number_found n (drop place bytes) rest h in
-    let end = from_place bytes rest (place + found.taken) (found.left ∙ drop-drop found.taken place bytes) in (
-      ap (λ r. unread_by place w (placed bytes r)) h,
-      ap (λ r. (result_unwrap_or (placed bytes r) (0, place)).0) h,
-      ap (λ r. (result_unwrap_or (placed bytes r) (0, place)).1) h,
-      end ∙ ap (λ k. drop k bytes) (sym (ap (λ r. (result_unwrap_or (placed bytes r) (0, place)).1) h)),
-    )

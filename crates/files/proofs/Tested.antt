@@ -5,7 +5,7 @@ use Rattle.std.proofs.lemmas.Bool.{le-ltb, lt-ltb}
 use Rattle.systems.specs.Bounded.{between, or_else}
 use Rattle.systems.specs.Layout.{words_taken}
 use Rattle.systems.proofs.Bounded.{or_else_none, first_below_none_all, first_below_none_from}
-use Rattle.files.specs.Sequence.{value_at, skip}
+use Rattle.codec.specs.Sequence.{value_at, skip}
 use Rattle.files.specs.SystemFile.{unread, refused, fault, states_allowed, channels_allowed, moves_allowed, next_allowed, controller_place, environment_place, next_place, next_numbers, readings_fault, next_fault, row_fault, row_start, rows_fault, states_at, channels_place, channels_at, rows_place, row_at, file_words, file_fault, file_parts, too_short}
 use Rattle.files.specs.declared.check.Allowed.{Allowed}
 use Rattle.files.specs.declared.check.TestedFile.{TestedFile}

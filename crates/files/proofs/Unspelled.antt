@@ -1,22 +1,16 @@
 -- Bytes that spell a list are read to it, number by number.
-use Rattle.std.proofs.Common.{◌≡◌, ℕ, zero, suc, ◌+◌, ◌-◌, ◌*◌, ◌<◌, List, [], ◌∷◌, ◌++◌, length, drop, None, Ok, sym, refl, ap, ◌∙◌, subst, suc-mul, zero-mul, below_more, arith}
+use Rattle.std.proofs.Common.{◌≡◌, ℕ, zero, suc, ◌+◌, ◌-◌, ◌*◌, ◌<◌, List, [], ◌∷◌, length, drop, None, Ok, sym, ap, ◌∙◌, subst, suc-mul, zero-mul, below_more, arith}
 use Rattle.codec.specs.Number.{number}
+use Rattle.codec.proofs.Skips.{skip-skip}
+use Rattle.codec.proofs.Spelled.{from_read, spells_split}
 use Rattle.systems.specs.Bounded.{joined_below, listed_below}
-use Rattle.files.specs.Sequence.{value_at, after, skip, nth, Spells}
-use Rattle.files.specs.SystemFile.{unread}
-use Rattle.files.proofs.Skips.{skip-skip}
-use Rattle.files.proofs.Spelled.{from_read}
+use Rattle.codec.specs.Sequence.{value_at, after, skip, nth, Spells}
+use Rattle.files.specs.SystemFile.{unread, unread_by}
 
 -- the rest is what the bytes hold from the place on
 pub record Here (bytes : List ℕ) (place : ℕ) (rest : List ℕ) : Type 0 where
   pub is : rest ≡ drop place bytes
   pub counts : place ≡ length bytes - length rest
-
-pub spells_split : (ns ms bytes rest : List ℕ) → Spells (ns ++ ms) bytes rest → (mid : List ℕ) × Spells ns bytes mid × Spells ms mid rest
-spells_split [] ms bytes rest h = (bytes, refl, h)
-spells_split (n ∷ ns) ms bytes rest h =
-    let s = spells_split ns ms h.0 rest h.2 in
-    (s.0, (h.0, h.1, s.1), s.2)
 
 -- a number that is spelled at a place
 pub record One (bytes : List ℕ) (place w n : ℕ) (rest : List ℕ) : Type 0 where
@@ -26,8 +20,8 @@ pub record One (bytes : List ℕ) (place w n : ℕ) (rest : List ℕ) : Type 0 w
 
 pub unspell_one : (bytes : List ℕ) (place w n : ℕ) (start rest : List ℕ) → Here bytes place start → number start ≡ Ok (n, rest) → One bytes place w n rest
 unspell_one bytes place w n start rest here h =
-    let at = from_read bytes place w n rest (ap number (sym here.is) ∙ h) in
-    record { read = at.0; value = at.1; behind = record { is = at.3; counts = at.2 } }
+    let at = from_read bytes place n rest (ap number (sym here.is) ∙ h) in
+    record { read = ap (unread_by place w) at.0; value = at.1; behind = record { is = at.3; counts = at.2 } }
 
 -- so many numbers
 pub record Listed (bytes : List ℕ) (start w k : ℕ) (gives : ℕ → ℕ) (rest : List ℕ) : Type 0 where

@@ -4,7 +4,7 @@ use Rattle.codec.specs.Filing.{filed}
 use Rattle.systems.specs.Bounded.{joined_below, listed_below}
 use Rattle.systems.specs.Layout.{LaidOut, stored}
 use Rattle.systems.specs.Meaning.{Meaning}
-use Rattle.files.specs.Sequence.{Spells}
+use Rattle.codec.specs.Sequence.{Spells}
 
 -- the readings of a state, as filed
 abbrev pub readings_flattened : Meaning → ℕ → List ℕ

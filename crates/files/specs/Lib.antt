@@ -1,10 +1,8 @@
 pub mod Answer
 pub mod Refusal
-pub mod Sequence
 pub mod SystemFile
 pub mod StrikeList
-pub mod Words
 pub mod Flattening
 pub mod SystemWrite
+pub mod Wrote
 pub mod Few
-pub mod Put

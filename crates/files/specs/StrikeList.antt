@@ -6,7 +6,7 @@ use Rattle.codec.specs.Number.{number_refusal}
 use Rattle.codec.specs.declared.number.NumberFault.TheVariants.{Ends}
 use Rattle.systems.specs.Bounded.{or_else, first_below}
 use Rattle.systems.specs.Refused.{unless}
-use Rattle.files.specs.Sequence.{number_at, value_at, after, skip, nth}
+use Rattle.codec.specs.Sequence.{number_at, value_at, after, skip, nth}
 use Rattle.files.specs.declared.list_fault.ListReason.{ListReason}
 use Rattle.files.specs.declared.list_fault.ListReason.TheVariants.{Letter, Number, TextTooLong}
 use Rattle.files.specs.declared.list_fault.ListFault.{ListFault}
@@ -44,11 +44,15 @@ text_at list place = record { place = after list place; bytes = take (value_at l
 abbrev pub text_end : List ℕ → ℕ → ℕ
 text_end list place = after list place + value_at list place
 
+-- how many bytes a text may have
+abbrev pub longest_text : ℕ
+longest_text = 64
+
 -- the fault of the text
 abbrev pub text_fault : List ℕ → ℕ → Option ListFault
 text_fault list place =
     or_else (unread list place)
-    (or_else (cond (nat_lt 64 (value_at list place)) (Some (list_fault TextTooLong place)) None)
+    (or_else (cond (nat_lt longest_text (value_at list place)) (Some (list_fault TextTooLong place)) None)
     (cond (nat_lt (length list) (text_end list place)) (Some (list_fault (Number Ends) place)) None))
 
 -- the record with the place behind it, none where the list has ended, or its fault

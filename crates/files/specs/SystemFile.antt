@@ -1,12 +1,14 @@
 -- A system file: n states of c channels, and then each state's row: its readings, the moves of either side, p and q,
 -- and a next state for each pair of moves, the environment's move fastest.
-use Rattle.std.specs.Prelude.{ℕ, zero, suc, ◌+◌, ◌-◌, ◌*◌, ◌≤◌, cond, ◌&&◌, List, Some, None, Ok, Err, Option, Result, nat_lt}
+use Rattle.std.specs.Prelude.{ℕ, zero, suc, ◌+◌, ◌-◌, ◌*◌, ◌≤◌, cond, List, Some, None, Ok, Err, Option, Result, nat_lt}
 use Rattle.codec.specs.Filing.{unfiled}
 use Rattle.codec.specs.declared.number.NumberFault.{NumberFault}
 use Rattle.systems.specs.Bounded.{between, first_below, or_else}
 use Rattle.systems.specs.Layout.{words_taken}
-use Rattle.systems.specs.Meaning.{Meaning, no_question}
-use Rattle.files.specs.Sequence.{number_at, value_at, after, skip, nth}
+use Rattle.systems.specs.Limits.{max_channels, max_moves, max_states}
+use Rattle.systems.specs.Meaning.{Meaning}
+use Rattle.systems.specs.Rows.{RowMeaning, of_rows}
+use Rattle.codec.specs.Sequence.{number_at, value_at, after, skip, nth}
 use Rattle.files.specs.declared.check.Allowed.{Allowed}
 use Rattle.files.specs.declared.check.TestedFile.{TestedFile}
 use Rattle.files.specs.declared.fault.Reason.{Reason}
@@ -16,15 +18,15 @@ use Rattle.files.specs.declared.system_read.SystemRead.{SystemRead}
 
 -- what the number of states may be, and why another is refused
 abbrev pub states_allowed : Allowed
-states_allowed = record { least = 1; most = 256; otherwise = States }
+states_allowed = record { least = 1; most = max_states; otherwise = States }
 
 -- what the number of channels may be
 abbrev pub channels_allowed : Allowed
-channels_allowed = record { least = 1; most = 8; otherwise = Channels }
+channels_allowed = record { least = 1; most = max_channels; otherwise = Channels }
 
 -- what a number of moves may be
 abbrev pub moves_allowed : Allowed
-moves_allowed = record { least = 1; most = 16; otherwise = Moves }
+moves_allowed = record { least = 1; most = max_moves; otherwise = Moves }
 
 -- what a next state may be, where there are n states
 abbrev pub next_allowed : ℕ → Allowed
@@ -69,10 +71,21 @@ next_numbers bytes c start = value_at bytes (controller_place bytes c start) * v
 abbrev pub row_end : List ℕ → ℕ → ℕ → ℕ
 row_end bytes c start = skip bytes (next_numbers bytes c start) (next_place bytes c start)
 
--- each side has at most 16 moves in the row
+-- what the row holds
+abbrev pub file_row : List ℕ → ℕ → ℕ → RowMeaning
+file_row bytes c start =
+    let q = value_at bytes (environment_place bytes c start) in
+    record {
+      reading = λ k. unfiled (nth bytes k start);
+      controller_moves = value_at bytes (controller_place bytes c start);
+      environment_moves = q;
+      next = λ a b. nth bytes (a * q + b) (next_place bytes c start);
+    }
+
+-- each side has no more moves in the row than a stored system may have
 abbrev pub FewMoves : List ℕ → ℕ → ℕ → Type 0
 FewMoves bytes c start =
-    (value_at bytes (controller_place bytes c start) ≤ 16) × (value_at bytes (environment_place bytes c start) ≤ 16)
+    (value_at bytes (controller_place bytes c start) ≤ max_moves) × (value_at bytes (environment_place bytes c start) ≤ max_moves)
 
 -- the first fault of so many readings
 abbrev pub readings_fault : List ℕ → ℕ → ℕ → ℕ → Option ReadFault
@@ -94,6 +107,10 @@ row_fault bytes n c w start =
 abbrev pub row_start : List ℕ → ℕ → ℕ → ℕ → ℕ
 row_start bytes c start zero = start
 row_start bytes c start (suc w) = row_end bytes c (row_start bytes c start w)
+
+-- what the row of state w holds
+abbrev pub file_rows : List ℕ → ℕ → ℕ → ℕ → RowMeaning
+file_rows bytes c start w = file_row bytes c (row_start bytes c start w)
 
 -- the first fault of the rows
 abbrev pub rows_fault : List ℕ → ℕ → ℕ → ℕ → Option ReadFault
@@ -152,16 +169,5 @@ file_read bytes place = record { words = (file_parts bytes place).words; end = (
 -- the system that a file describes
 unfoldable pub described : List ℕ → ℕ → Meaning
 described bytes place =
-    let n = states_at bytes place in
     let c = channels_at bytes place in
-    let start : ℕ → ℕ = row_at bytes place in
-    let p : ℕ → ℕ = λ w. cond (nat_lt w n) (value_at bytes (controller_place bytes c (start w))) 0 in
-    let q : ℕ → ℕ = λ w. cond (nat_lt w n) (value_at bytes (environment_place bytes c (start w))) 0 in
-    record {
-      states = n;
-      channels = c;
-      reading = λ w k. cond (nat_lt w n && nat_lt k c) (unfiled (nth bytes k (start w))) no_question;
-      controller_moves = p;
-      environment_moves = q;
-      next = λ w a b. cond (nat_lt w n && (nat_lt a (p w) && nat_lt b (q w))) (nth bytes (a * q w + b) (next_place bytes c (start w))) 0;
-    }
+    of_rows (states_at bytes place) c (file_rows bytes c (rows_place bytes place))

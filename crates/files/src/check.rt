@@ -1,12 +1,12 @@
 //! The test of a whole system file, number by number, before a word is written.
 ghost use Rattle.std.specs.Prelude.{◌≡◌, OnOk};
 ghost use Rattle.files.specs.Answer.{Unless};
-ghost use Rattle.files.specs.Sequence.{value_at, after, skip};
+ghost use Rattle.codec.specs.Sequence.{value_at, after, skip};
 ghost use Rattle.files.specs.SystemFile.{unread, refused, next_allowed, readings_fault, next_fault, row_fault, row_end, row_start, rows_fault, file_fault, file_parts, too_short};
 
 use crate::fault::{ReadFault, Reason};
-use crate::sequence::Reader;
-use systems::{MAX_CHANNELS, MAX_MOVES, MAX_STATES, row_place};
+use codec::Reader;
+use systems::{MAX_CHANNELS, MAX_MOVES, MAX_STATES, words_taken};
 
 /// What a number may be, and why another is refused.
 #[derive(Clone, Copy)]
@@ -46,7 +46,7 @@ const MOVES_ALLOWED: Allowed = Allowed {
 
 // Reader and state are two parameters: a struct of both would be made anew for each row.
 /// Reads the next number, in the row of the state.
-#[tactic(auto, unfolding(crate::specs::Sequence::value_at))]
+#[tactic(auto, unfolding(codec::specs::Sequence::value_at))]
 fn number(reader: &mut Reader, state: u16) -> Result<u16, ReadFault>
     ensures answer { Unless (unread reader.old.bytes reader.old.place state) (value_at reader.old.bytes reader.old.place) result }
     ensures place { reader.new ≡ record reader.old { place = after reader.old.bytes reader.old.place } }
@@ -176,7 +176,7 @@ pub(crate) fn check_file(bytes: &[u8], place: usize, room: usize) -> Result<Test
     let states = allowed_number(&mut reader, 0, STATES_ALLOWED)?;
     let behind_states = reader.place();
     let channels = allowed_number(&mut reader, 0, CHANNELS_ALLOWED)?;
-    let words = row_place(channels, states);
+    let words = words_taken(states, channels);
     if room < words {
         return Err(too_short(behind_states));
     }

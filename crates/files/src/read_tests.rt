@@ -4,6 +4,7 @@ use codec::NumberFault;
 use std::alloc::{AllocError, Global};
 use std::process::Abort;
 use std::test::Fail;
+use systems::{Stored, System, words_taken};
 
 /// What each word holds before a file is read.
 const PATTERN: u16 = 0xABCD;
@@ -18,7 +19,9 @@ const AT: usize = 100;
 pub(crate) const TWO_STATES: [u8; 13] = [2, 1, 10, 2, 1, 0, 1, 0x83, 0x01, 1, 2, 1, 0];
 
 /// How many words that system takes.
-const TWO_STATES_WORDS: usize = 520;
+fn two_states_words() -> usize {
+    words_taken(2, 1)
+}
 
 fn pattern(heap: Global, words: usize) -> Result<Vec<u16>, AllocError> {
     vec![in heap; PATTERN; words]
@@ -50,23 +53,27 @@ fn a_system_is_put_into_the_middle(rt: HostRuntime) -> Result<(), Fail> {
     assert_eq!(rt;
         read,
         Ok(SystemRead {
-            words: TWO_STATES_WORDS,
+            words: two_states_words(),
             end: 13,
         })
     );
     assert!(rt; memory.len() == ENOUGH);
-    assert_eq!(rt; memory[AT - 1], PATTERN);
-    assert_eq!(rt; memory[AT], 2);
-    assert_eq!(rt; memory[AT + 1], 1);
-    assert_eq!(rt; memory[AT + 2], 32_773);
-    assert_eq!(rt; memory[AT + 3], 2);
-    assert_eq!(rt; memory[AT + 4], 1);
-    assert_eq!(rt; memory[AT + 5], 0);
-    assert_eq!(rt; memory[AT + 21], 1);
-    assert_eq!(rt; memory[AT + 22], 0);
-    assert_eq!(rt; memory[AT + 261], 32_702);
-    assert_eq!(rt; memory[AT + TWO_STATES_WORDS - 1], 0);
-    assert_eq!(rt; memory[AT + TWO_STATES_WORDS], PATTERN);
+    let system = Stored::new(&memory[AT..]);
+    assert_eq!(rt; [system.states(), u16::from(system.channels())], [2, 1]);
+    assert_eq!(rt; [system.reading(0, 0), system.reading(1, 0)], [5, -66]);
+    assert_eq!(rt;
+        [system.controller_moves(0), system.environment_moves(0)],
+        [2, 1]
+    );
+    assert_eq!(rt; [system.next(0, 0, 0), system.next(0, 1, 0)], [0, 1]);
+    assert_eq!(rt;
+        [system.controller_moves(1), system.environment_moves(1)],
+        [1, 2]
+    );
+    assert_eq!(rt; [system.next(1, 0, 0), system.next(1, 0, 1)], [1, 0]);
+    let behind = AT.saturating_add(two_states_words());
+    assert_eq!(rt; memory.get(AT - 1), Some(&PATTERN));
+    assert_eq!(rt; memory.get(behind), Some(&PATTERN));
     Ok(())
 }
 
@@ -88,12 +95,13 @@ fn a_cut_file_has_ended(rt: HostRuntime) -> Result<(), Fail> {
 fn each_fault_has_its_place_and_state(rt: HostRuntime) -> Result<(), Fail> {
     let too_long = Reason::Number(NumberFault::TooLong);
     let too_large = Reason::Number(NumberFault::TooLarge);
+    let one_word_less = AT.saturating_add(two_states_words()).saturating_sub(1);
     let cases: [(&[u8], usize, Reason, usize, u16); 11] = [
         (&[0, 9], ENOUGH, Reason::States, 0, 0),
         (&[0x81, 0x02, 1], ENOUGH, Reason::States, 0, 0),
         (&[1, 0], ENOUGH, Reason::Channels, 1, 0),
         (&[0x80, 0x02, 9], ENOUGH, Reason::Channels, 2, 0),
-        (&TWO_STATES, 619, Reason::TooShort, 1, 0),
+        (&TWO_STATES, one_word_less, Reason::TooShort, 1, 0),
         (&TWO_STATES, 99, Reason::TooShort, 1, 0),
         (&[2, 1, 10, 2, 1, 0, 1, 3, 0], ENOUGH, Reason::Moves, 8, 1),
         (&[2, 1, 10, 2, 17], ENOUGH, Reason::Moves, 4, 0),

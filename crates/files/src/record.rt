@@ -10,7 +10,7 @@ pub struct Text<'a> {
 }
 
 impl<'a> Model for Text<'a> {
-    ghost use Rattle.files.specs.Sequence.{Part};
+    ghost use Rattle.codec.specs.Sequence.{Part};
 
     ghost Value = { Part };
 

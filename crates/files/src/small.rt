@@ -31,7 +31,7 @@ fn has_few_moves_throughout<S: System>(system: &S) -> bool
 
 impl<'a, S: System> SmallSystem<'a, S> {
     /// The system, where its sizes are small enough.
-    #[tactic(auto, using(crate::proofs::Puts::few_from))]
+    #[tactic(auto, using(crate::proofs::FileSize::few_from))]
     pub(crate) fn new(system: &'a S) -> Result<Self, SystemWriteFault>
         ensures same { IfOk result (λ small. small.system.now ≡ system.now) }
         ensures room { OnOk result ((room : ℕ) → write_fault (S.System.meaning system.now) room ≡ (if nat_lt room (length (system_bytes (S.System.meaning system.now))) then Some SystemWriteFault.TooFewBytes else None)) }

@@ -1,20 +1,19 @@
 //! Reading a strike list, record by record.
 ghost use Rattle.std.specs.Prelude.{◌≡◌, ◌<◌, ◌≤◌, length, IfOk, OnOk, IfSome};
 ghost use Rattle.files.specs.Answer.{Unless};
-ghost use Rattle.files.specs.Sequence.{WentOn, value_at, after, skip};
+ghost use Rattle.codec.specs.Sequence.{WentOn, value_at, after, skip};
 ghost use Rattle.files.specs.StrikeList.{unread, numbers_fault, pair_at, text_at, text_fault, text_end, record_at};
 
 use crate::list_fault::{ListFault, ListReason};
 use crate::record::{Record, Text};
-use crate::sequence::Reader;
-use codec::NumberFault;
+use codec::{NumberFault, Reader};
 
 /// The most bytes that a text may have.
 const LONGEST_TEXT: u16 = 64;
 
 /// Reads the next number.
 // Not one function with `number` of `check`: that one's fault names a state.
-#[tactic(auto, using(crate::proofs::Forward::after_forward, crate::proofs::Forward::after_inside), unfolding(crate::specs::Sequence::value_at))]
+#[tactic(auto, using(codec::proofs::Forward::after_forward, codec::proofs::Forward::after_inside), unfolding(codec::specs::Sequence::value_at))]
 fn number(reader: &mut Reader) -> Result<u16, ListFault>
     ensures answer { Unless (unread reader.old.bytes reader.old.place) (value_at reader.old.bytes reader.old.place) result }
     ensures place { reader.new ≡ record reader.old { place = after reader.old.bytes reader.old.place } }
@@ -71,12 +70,12 @@ pub fn read_record<'a>(
     ensures answer { result ≡ record_at list.now place }
     ensures forward { IfOk result (λ found. IfSome found (λ read. (place < read.1) × (read.1 ≤ length list.now))) }
 {
-    let Some(letter) = list.get(place) else {
+    let mut reader = Reader::new(list, place);
+    let Some(letter) = reader.byte() else {
         return Ok(None);
     };
-    let mut reader = Reader::new(list, place + 1);
     // by a rule of this project the letter is a `char`, and the cases are character literals
-    let record = match char::from(*letter) {
+    let record = match char::from(letter) {
         'S' => Record::Sight(pair(&mut reader)?),
         'V' => Record::Move(pair(&mut reader)?, number(&mut reader)?),
         'M' => Record::Maker(text(&mut reader)?),

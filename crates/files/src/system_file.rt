@@ -5,13 +5,14 @@ ghost use Rattle.systems.specs.Refused.{unless};
 ghost use Rattle.files.specs.Few.{Few};
 ghost use Rattle.files.specs.Flattening.{ReadsAsFiled};
 ghost use Rattle.files.specs.SystemFile.{described, file_fault, file_parts, file_read, file_words};
-ghost use Rattle.files.specs.Words.{put_at, system_words};
+ghost use Rattle.codec.specs.Put.{put_at};
+ghost use Rattle.systems.specs.Words.{system_words};
 
 use crate::check::{TestedFile, check_file, too_short};
 use crate::fault::ReadFault;
 use crate::rows::write_words;
-use crate::sequence::Reader;
 use crate::system_read::SystemRead;
+use codec::Reader;
 
 /// A system file that has no fault, before its system is laid out.
 ///

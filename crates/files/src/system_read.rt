@@ -4,7 +4,8 @@ ghost use Rattle.systems.specs.Layout.{stored};
 ghost use Rattle.systems.specs.Refused.{unless};
 ghost use Rattle.files.specs.Flattening.{ReadsAsFiled};
 ghost use Rattle.files.specs.SystemFile.{file_fault, file_read, described};
-ghost use Rattle.files.specs.Words.{put_at, system_words};
+ghost use Rattle.codec.specs.Put.{put_at};
+ghost use Rattle.systems.specs.Words.{system_words};
 
 use crate::fault::ReadFault;
 use crate::system_file::SystemFile;

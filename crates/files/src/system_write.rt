@@ -4,20 +4,21 @@ ghost use Rattle.systems.specs.Refused.{unless};
 ghost use Rattle.files.specs.SystemWrite.{system_bytes, system_write_refusal, write_fault, ReadsBack};
 
 use crate::small::SmallSystem;
-use systems::System;
+use codec::WriteFault;
+use systems::{LayoutFault, System};
 
 /// Why a system is not written, with the number of that refusal.
 // No `Layout(LayoutFault)`: two of a layout's cases, `TooShort` and `NextState`, never come here.
 #[derive(Clone, Copy, Debug, PartialEq, Eq)]
 pub enum SystemWriteFault {
     /// It has more than 256 states.
-    States = 18,
+    States = LayoutFault::States as isize,
     /// It has more than 8 channels.
-    Channels = 19,
+    Channels = LayoutFault::Channels as isize,
     /// A side has more than 16 moves at a state.
-    Moves = 21,
+    Moves = LayoutFault::Moves as isize,
     /// There are fewer bytes than its file takes.
-    TooFewBytes = 23,
+    TooFewBytes = WriteFault::TooFewBytes as isize,
 }
 
 impl SystemWriteFault {

@@ -4,5 +4,6 @@
 mod calls;
 
 pub use calls::{
-    cunaweho_check, cunaweho_decide, cunaweho_rank, cunaweho_read_system, cunaweho_write_system,
+    cunaweho_check, cunaweho_decide, cunaweho_decide_words, cunaweho_rank, cunaweho_rank_words,
+    cunaweho_read_system, cunaweho_write_system,
 };

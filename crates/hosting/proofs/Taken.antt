@@ -1,26 +1,18 @@
 -- Two files that are taken for an exchange.
-use Rattle.std.proofs.Common.{◌≡◌, ℕ, ◌*◌, ◌<◌, ◌≤◌, Bool, true, cond, not, eqb, leb, ltb, ◌&&◌, List, Some, None, Ok, Err, Option, Result, refl, ◌∙◌, arith}
+use Rattle.std.proofs.Common.{◌≡◌, ℕ, ◌*◌, ◌<◌, ◌≤◌, Bool, true, cond, not, eqb, leb, ltb, ◌&&◌, Some, None, Option, refl, ◌∙◌, arith}
 use Rattle.std.proofs.lemmas.Bool.{le-ltb}
 use Rattle.std.proofs.lemmas.Bool.Decides.{nat_tests}
 use Rattle.systems.specs.Meaning.{Meaning, Reading}
 use Rattle.systems.specs.Bounded.{or_else}
-use Rattle.systems.specs.Layout.{stored, stored_words}
 use Rattle.systems.proofs.Bounded.{all_below_from, or_else_none}
-use Rattle.likeness.specs.Within.{first_too_wide, within}
-use Rattle.std.specs.Prelude.{IfOk, option_map}
-use Rattle.arena.specs.Arena.{Arena}
+use Rattle.likeness.specs.Within.{first_too_wide}
+use Rattle.std.specs.Prelude.{option_map}
 use Rattle.arena.specs.Exchange.{exchange}
-use Rattle.arena.specs.Table.{Shows}
-use Rattle.docket.specs.Certificate.{Certifies}
 use Rattle.docket.specs.Refusals.{few_moves, opening_refusal}
-use Rattle.docket.specs.declared.certificate.Certificate.{Certificate}
-use Rattle.docket.specs.declared.certificate.CertificateFault.{CertificateFault}
 use Rattle.docket.specs.declared.refusal.Refusal.{Refusal}
 use Rattle.docket.specs.declared.refusal.Refusal.TheVariants.{NotComparable, TableTooShort}
 use Rattle.files.specs.Few.{Few}
-use Rattle.files.specs.SystemFile.{described, file_fault}
-use Rattle.files.specs.Words.{Holds}
-use Rattle.files.proofs.Held.{stored_is}
+use Rattle.files.specs.SystemFile.{file_fault}
 use Rattle.hosting.specs.Files.{Lent, Room, filed, files_fault}
 use Rattle.hosting.specs.declared.fault.FilesFault.TheVariants.{Tolerance, OldFile, NewFile, Exchange}
 
@@ -61,19 +53,6 @@ pub fault_together : (e : Lent) (lent : Room) → first_too_wide e.tolerances �
     → files_fault e lent ≡ option_map (λ refusal. Exchange refusal) (opening_refusal (filed e) lent.entries)
 fault_together e lent t o n = rw (t, o, n) refl
 
--- the systems that the words hold, with the likeness, make the exchange of the files
-exchange_of : (e : Lent) (old new : Meaning) (tolerances : List ℕ) → old ≡ described e.old_file 0 → new ≡ described e.new_file 0 → tolerances ≡ e.tolerances → exchange old new (within tolerances) ≡ filed e
-exchange_of e old new tolerances o n t = rw (o, n, t) refl
-
-pub exchange_is : (e : Lent) (old_words new_words old_kept new_kept tolerances : List ℕ) → Holds (described e.old_file 0) old_words → Holds (described e.new_file 0) new_words
-    → old_kept ≡ stored_words old_words → new_kept ≡ stored_words new_words → tolerances ≡ e.tolerances
-    → exchange (stored old_kept) (stored new_kept) (within tolerances) ≡ filed e
-exchange_is e old_words new_words old_kept new_kept tolerances old new o n t =
-    exchange_of e (stored old_kept) (stored new_kept) tolerances
-    (stored_is (described e.old_file 0) old_words old_words old_kept old refl o)
-    (stored_is (described e.new_file 0) new_words new_words new_kept new refl n)
-    t
-
 -- files without a fault open
 pub opens : (e : Lent) (lent : Room) → files_fault e lent ≡ None → opening_refusal (filed e) lent.entries ≡ None
 opens e lent none =
@@ -89,8 +68,3 @@ opens e lent none =
     unmapped : (o : Option Refusal) → option_map (λ refusal. Exchange refusal) o ≡ None → o ≡ None
     unmapped None h = refl
     unmapped (Some refusal) h = cc
-
--- what an accepted table shows
-pub accepted_shows : (A : Arena) (table : List ℕ) (found : Result Certificate CertificateFault) → Certifies A table found → IfOk found (λ c. Shows A table c.replaces)
-accepted_shows A table (Ok c) law = law
-accepted_shows A table (Err fault) law = tt

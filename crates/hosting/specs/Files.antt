@@ -1,12 +1,13 @@
 -- The exchange of the systems that two files describe.
 use Rattle.std.specs.Prelude.{ℕ, List, Option, option_map}
+use Rattle.codec.specs.Put.{put_at}
 use Rattle.systems.specs.Bounded.{or_else}
 use Rattle.likeness.specs.Within.{first_too_wide, within}
 use Rattle.arena.specs.Arena.{Arena}
 use Rattle.arena.specs.Exchange.{exchange}
 use Rattle.docket.specs.Refusals.{opening_refusal}
 use Rattle.files.specs.SystemFile.{described, file_fault}
-use Rattle.files.specs.Words.{put_at, system_words}
+use Rattle.systems.specs.Words.{system_words}
 use Rattle.hosting.specs.declared.fault.FilesFault.{FilesFault}
 use Rattle.hosting.specs.declared.fault.FilesFault.TheVariants.{Tolerance, OldFile, NewFile, Exchange}
 use Rattle.hosting.specs.declared.filed.FiledExchange.{FiledExchange}

@@ -1,10 +1,12 @@
 //! What crosses between the calls and C.
 ghost use Rattle.std.specs.Prelude.{◌≡◌};
-ghost use Rattle.hosting.specs.Answers.{certificate_of, decision_of, ranks_of, read_of, written_of};
+ghost use Rattle.hosting.specs.Answers.{certificate_of, decision_of, files_refusal, ranks_of, read_of, words_refusal, written_of};
 
-use crate::fault::{CheckFault, FilesFault};
+use crate::fault::{CheckFault, FilesFault, WordsFault};
 use crate::item::Item;
-use crate::refusal::{Refusal, about, check_refusal, file_refusal, files_refusal, granted};
+use crate::refusal::{
+    Refusal, about, check_refusal, file_refusal, files_refusal, granted, words_refusal,
+};
 use docket::{Certificate as Shown, Outcome};
 use files::{ReadFault, SystemRead, SystemWriteFault};
 use likeness::TOLERANCE_CHANNELS;
@@ -110,9 +112,23 @@ impl Written {
 }
 
 impl Decision {
-    /// What crosses of a decision.
+    /// What crosses of a decision of two files.
     pub fn of(decided: Result<Outcome, FilesFault>) -> Decision
-        ensures { result ≡ decision_of decided }
+        ensures { result ≡ decision_of files_refusal decided }
+    {
+        Decision::told(decided.map_err(files_refusal))
+    }
+
+    /// What crosses of a decision of two systems in words.
+    pub fn of_words(decided: Result<Outcome, WordsFault>) -> Decision
+        ensures { result ≡ decision_of words_refusal decided }
+    {
+        Decision::told(decided.map_err(words_refusal))
+    }
+
+    /// What crosses of a decision that is refused as C takes it.
+    fn told(decided: Result<Outcome, Refusal>) -> Decision
+        ensures { result ≡ decision_of (λ refusal. refusal) decided }
     {
         match decided {
             Ok(
@@ -127,8 +143,8 @@ impl Decision {
                 standing,
                 replaces,
             },
-            Err(fault) => Decision {
-                refusal: files_refusal(fault),
+            Err(refusal) => Decision {
+                refusal,
                 swept: 0,
                 standing: 0,
                 replaces: false,
@@ -158,17 +174,31 @@ impl Certificate {
 }
 
 impl Ranks {
-    /// What crosses of a ranking.
+    /// What crosses of a ranking of two files.
     pub fn of(ranked: Result<u32, FilesFault>) -> Ranks
-        ensures { result ≡ ranks_of ranked }
+        ensures { result ≡ ranks_of files_refusal ranked }
+    {
+        Ranks::told(ranked.map_err(files_refusal))
+    }
+
+    /// What crosses of a ranking of two systems in words.
+    pub fn of_words(ranked: Result<u32, WordsFault>) -> Ranks
+        ensures { result ≡ ranks_of words_refusal ranked }
+    {
+        Ranks::told(ranked.map_err(words_refusal))
+    }
+
+    /// What crosses of a ranking that is refused as C takes it.
+    fn told(ranked: Result<u32, Refusal>) -> Ranks
+        ensures { result ≡ ranks_of (λ refusal. refusal) ranked }
     {
         match ranked {
             Ok(highest) => Ranks {
                 refusal: granted(),
                 highest,
             },
-            Err(fault) => Ranks {
-                refusal: files_refusal(fault),
+            Err(refusal) => Ranks {
+                refusal,
                 highest: 0,
             },
         }

@@ -7,7 +7,6 @@ ghost use Rattle.hosting.specs.Files.{filed, files_fault, laid_out, lent_by, roo
 
 use crate::fault::FilesFault;
 use crate::filed::FiledExchange;
-use crate::held::Held;
 use docket::Outcome;
 
 impl FiledExchange<'_> {
@@ -20,19 +19,20 @@ impl FiledExchange<'_> {
         new_words: &mut [u16],
         table: &mut [u32],
     ) -> Result<Outcome, FilesFault>
-        ensures answer { result ≡ decide_says (lent_by self.now) (room (length old_words.old) (length new_words.old) (length table.old)) table.old }
-        ensures table { table.new ≡ decide_does (lent_by self.now) (room (length old_words.old) (length new_words.old) (length table.old)) table.old }
+        ensures answer { result ≡ decide_says
+            (files_fault (lent_by self.now)
+            (room (length old_words.old) (length new_words.old) (length table.old)))
+            (filed (lent_by self.now)) table.old }
+        ensures table { table.new ≡ decide_does
+            (files_fault (lent_by self.now)
+            (room (length old_words.old) (length new_words.old) (length table.old)))
+            (filed (lent_by self.now)) table.old }
         ensures old { old_words.new ≡ if_granted (files_fault (lent_by self.now) (room (length old_words.old) (length new_words.old) (length table.old))) (laid_out self.now.old_file.now old_words.old) old_words.old }
         ensures new { new_words.new ≡ if_granted (files_fault (lent_by self.now) (room (length old_words.old) (length new_words.old) (length table.old))) (laid_out self.now.new_file.now new_words.old) new_words.old }
         ensures law { IfOk result (λ outcome. Judged (filed (lent_by self.now)) table.new outcome.replaces) }
     {
         let likeness = self.take_in(old_words, new_words, table.len())?;
-        let held = Held {
-            files: self,
-            likeness: &likeness,
-            old_words,
-            new_words,
-        };
+        let held = self.hold(likeness, old_words, new_words);
         held.judge(table).map_err(FilesFault::Exchange)
     }
 }

@@ -1,12 +1,14 @@
-//! Why two files, or what is lent with them, are refused.
+//! Why two files, the words of two systems, or what is lent with them, are refused.
 ghost use Rattle.std.specs.Prelude.{◌≡◌};
-ghost use Rattle.hosting.specs.declared.fault.CheckFault.TheVariants.{Files, Table};
+ghost use Rattle.hosting.specs.declared.fault.CheckFault.TheVariants.{Words, Table};
 ghost use Rattle.hosting.specs.declared.fault.FilesFault.TheVariants.{Exchange};
-ghost use Rattle.hosting.specs.Fault.{check_fault_number, files_fault_number};
+ghost use Rattle.hosting.specs.declared.fault.WordsFault.TheVariants.{Exchange as Misfit};
+ghost use Rattle.hosting.specs.Fault.{check_fault_number, files_fault_number, words_fault_number};
 
 use docket::{CertificateFault, Refusal};
 use files::ReadFault;
 use likeness::ToleranceFault;
+use systems::LayoutFault;
 
 /// Why two files, or what is lent with them, do not serve.
 #[derive(Clone, Copy, Debug, PartialEq, Eq)]
@@ -42,11 +44,45 @@ impl From<Refusal> for FilesFault {
     }
 }
 
-/// Why a table is no certificate of the exchange of two files.
+/// Why the words of two systems, or what is lent with them, do not serve.
+#[derive(Clone, Copy, Debug, PartialEq, Eq)]
+pub enum WordsFault {
+    /// The tolerance of this channel is too wide, and of none before it.
+    Tolerance(usize),
+    /// The words of the old system have not the layout.
+    OldWords(LayoutFault),
+    /// The words of the new system have not the layout.
+    NewWords(LayoutFault),
+    /// The two systems do not serve together, or the table does not.
+    Exchange(Refusal),
+}
+
+impl WordsFault {
+    /// The number of the refusal.
+    pub fn number(&self) -> u8
+        ensures { result ≡ words_fault_number self.now }
+    {
+        match self {
+            WordsFault::Tolerance(_) => ToleranceFault::TooWide.number(),
+            WordsFault::OldWords(fault) | WordsFault::NewWords(fault) => fault.number(),
+            WordsFault::Exchange(refusal) => refusal.number(),
+        }
+    }
+}
+
+impl From<Refusal> for WordsFault {
+    ghost from_gives = { λ refusal r. r ≡ Misfit refusal };
+
+    fn from(refusal: Refusal) -> WordsFault {
+        WordsFault::Exchange(refusal)
+    }
+}
+
+/// Why a table is no certificate of the exchange of two systems in words.
 #[derive(Clone, Copy, Debug, PartialEq, Eq)]
 pub enum CheckFault {
-    /// The files, or what is lent with them, do not serve.
-    Files(FilesFault),
+    /// The words, or what is lent with them, do not serve.
+    Words(WordsFault),
     /// The table is no certificate.
     Table(CertificateFault),
 }
@@ -57,17 +93,17 @@ impl CheckFault {
         ensures { result ≡ check_fault_number self.now }
     {
         match self {
-            CheckFault::Files(fault) => fault.number(),
+            CheckFault::Words(fault) => fault.number(),
             CheckFault::Table(fault) => fault.number(),
         }
     }
 }
 
-impl From<FilesFault> for CheckFault {
-    ghost from_gives = { λ fault r. r ≡ Files fault };
+impl From<WordsFault> for CheckFault {
+    ghost from_gives = { λ fault r. r ≡ Words fault };
 
-    fn from(fault: FilesFault) -> CheckFault {
-        CheckFault::Files(fault)
+    fn from(fault: WordsFault) -> CheckFault {
+        CheckFault::Words(fault)
     }
 }
 

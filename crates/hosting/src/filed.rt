@@ -6,16 +6,19 @@ ghost use Rattle.arena.specs.Exchange.{exchange};
 ghost use Rattle.docket.specs.Refusals.{opening_refusal};
 ghost use Rattle.files.specs.Few.{Few};
 ghost use Rattle.files.specs.SystemFile.{described, file_words};
-ghost use Rattle.files.specs.Words.{Holds};
+ghost use Rattle.systems.specs.Layout.{Holds};
 ghost use Rattle.likeness.specs.Within.{first_too_wide};
 ghost use Rattle.hosting.specs.declared.fault.FilesFault.TheVariants.{Tolerance};
 ghost use Rattle.hosting.specs.Tested.{IsTested};
 ghost use Rattle.hosting.specs.Files.{filed, files_fault, laid_out, lent_by, room};
+ghost use Rattle.hosting.specs.Stored.{held_exchange};
 
 use crate::fault::FilesFault;
+use crate::held::Held;
 use docket::Refusal;
 use files::SystemFile;
 use likeness::{TOLERANCE_CHANNELS, Within};
+use systems::Stored;
 
 /// What is asked about: the files of an old system and a new one, each at the front of its bytes, and how far readings may differ on each channel.
 #[derive(Clone, Copy)]
@@ -116,5 +119,24 @@ impl<'a> FiledExchange<'a> {
         lay_out(&tested.old, old_words);
         lay_out(&tested.new, new_words);
         Ok(tested.likeness)
+    }
+
+    /// The systems of both files, which are laid out in the words, with the likeness.
+    pub(crate) fn hold<'w>(
+        &self,
+        likeness: Within,
+        old_words: &'w [u16],
+        new_words: &'w [u16],
+    ) -> Held<'w>
+        requires likeness { likeness.tolerances ≡ self.now.tolerances }
+        requires old { Holds (described self.now.old_file.now 0) old_words.now }
+        requires new { Holds (described self.now.new_file.now 0) new_words.now }
+        ensures { held_exchange result ≡ filed (lent_by self.now) }
+    {
+        Held {
+            old: Stored { words: old_words },
+            new: Stored { words: new_words },
+            likeness,
+        }
     }
 }

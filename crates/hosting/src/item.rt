@@ -19,4 +19,8 @@ pub(crate) enum Item {
     File = 6,
     /// The system that is to be written, or the bytes for it.
     System = 7,
+    /// The words of the old system.
+    OldWords = 8,
+    /// The words of the new system.
+    NewWords = 9,
 }

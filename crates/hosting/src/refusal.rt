@@ -1,11 +1,12 @@
 //! Why a call is refused, as C takes it.
 ghost use Rattle.std.specs.Prelude.{◌≡◌};
-ghost use Rattle.hosting.specs.Answers.{about, check_refusal, file_refusal, files_refusal, granted, pair_refusal, table_refusal};
+ghost use Rattle.hosting.specs.Answers.{about, check_refusal, file_refusal, files_refusal, granted, pair_refusal, table_refusal, wide_tolerance, words_refusal};
 
-use crate::fault::{CheckFault, FilesFault};
+use crate::fault::{CheckFault, FilesFault, WordsFault};
 use crate::item::Item;
 use docket::CertificateFault;
 use files::ReadFault;
+use likeness::ToleranceFault;
 
 /// Why a call is refused.
 #[repr(C)]
@@ -54,19 +55,37 @@ pub(crate) fn file_refusal(item: Item, fault: ReadFault) -> Refusal
     }
 }
 
+/// The refusal of a tolerance that is too wide.
+fn wide_tolerance(channel: usize) -> Refusal
+    ensures { result ≡ wide_tolerance channel }
+{
+    Refusal {
+        place: channel,
+        ..about(Item::Tolerances, ToleranceFault::TooWide.number())
+    }
+}
+
 /// The refusal of two files and what is lent with them.
 pub(crate) fn files_refusal(fault: FilesFault) -> Refusal
     ensures { result ≡ files_refusal fault }
 {
-    let number = fault.number();
     match fault {
-        FilesFault::Tolerance(channel) => Refusal {
-            place: channel,
-            ..about(Item::Tolerances, number)
-        },
+        FilesFault::Tolerance(channel) => wide_tolerance(channel),
         FilesFault::OldFile(fault) => file_refusal(Item::OldFile, fault),
         FilesFault::NewFile(fault) => file_refusal(Item::NewFile, fault),
-        FilesFault::Exchange(_) => about(Item::Exchange, number),
+        FilesFault::Exchange(refusal) => about(Item::Exchange, refusal.number()),
+    }
+}
+
+/// The refusal of the words of two systems and what is lent with them.
+pub(crate) fn words_refusal(fault: WordsFault) -> Refusal
+    ensures { result ≡ words_refusal fault }
+{
+    match fault {
+        WordsFault::Tolerance(channel) => wide_tolerance(channel),
+        WordsFault::OldWords(fault) => about(Item::OldWords, fault.number()),
+        WordsFault::NewWords(fault) => about(Item::NewWords, fault.number()),
+        WordsFault::Exchange(refusal) => about(Item::Exchange, refusal.number()),
     }
 }
 
@@ -100,7 +119,7 @@ pub(crate) fn check_refusal(fault: CheckFault) -> Refusal
     ensures { result ≡ check_refusal fault }
 {
     match fault {
-        CheckFault::Files(fault) => files_refusal(fault),
+        CheckFault::Words(fault) => words_refusal(fault),
         CheckFault::Table(fault) => table_refusal(fault),
     }
 }

@@ -14,26 +14,26 @@ use Rattle.docket.specs.declared.refusal.Refusal.{Refusal}
 use Rattle.ranking.specs.Rank.{rank_does as ranking_does, rank_says as ranking_says}
 use Rattle.hosting.specs.Calls.{of_table}
 use Rattle.hosting.specs.declared.fault.CheckFault.{CheckFault}
-use Rattle.hosting.specs.declared.fault.CheckFault.TheVariants.{Files}
-use Rattle.hosting.specs.declared.fault.FilesFault.{FilesFault}
-use Rattle.hosting.specs.declared.fault.FilesFault.TheVariants.{Tolerance, Exchange}
+use Rattle.hosting.specs.declared.fault.CheckFault.TheVariants.{Words}
+use Rattle.hosting.specs.declared.fault.WordsFault.{WordsFault}
+use Rattle.hosting.specs.declared.fault.WordsFault.TheVariants.{Tolerance, Exchange}
 
 -- the exchange of two systems under the tolerances
 abbrev pub layers : List ℕ → Meaning → Meaning → Arena
 layers tolerances old new = exchange old new (within tolerances)
 
 -- an answer, its refusal as a fault
-abbrev pub with_fault : {X : Type 0} → Result X Refusal → Result X FilesFault
+abbrev pub with_fault : {X : Type 0} → Result X Refusal → Result X WordsFault
 with_fault (Ok answer) = Ok answer
 with_fault (Err refusal) = Err (Exchange refusal)
 
 -- an answer, unless a tolerance is too wide
-abbrev pub unless_too_wide : {X F : Type 0} → Option ℕ → (FilesFault → F) → Result X F → Result X F
+abbrev pub unless_too_wide : {X F : Type 0} → Option ℕ → (WordsFault → F) → Result X F → Result X F
 unless_too_wide (Some channel) as_fault answer = Err (as_fault (Tolerance channel))
 unless_too_wide None as_fault answer = answer
 
 -- what a decision answers
-abbrev pub decide_says : List ℕ → Meaning → Meaning → List ℕ → Result Outcome FilesFault
+abbrev pub decide_says : List ℕ → Meaning → Meaning → List ℕ → Result Outcome WordsFault
 decide_says tolerances old new table =
     unless_too_wide (first_too_wide tolerances) (λ fault. fault) (with_fault (judge_says (layers tolerances old new) (position closed table)))
 
@@ -43,10 +43,10 @@ decide_does tolerances old new table = if_granted (first_too_wide tolerances) (j
 
 -- what a certificate check answers
 abbrev pub check_says : List ℕ → Meaning → Meaning → List ℕ → Result Certificate CheckFault
-check_says tolerances old new table = unless_too_wide (first_too_wide tolerances) (λ fault. Files fault) (of_table (certificate_says (layers tolerances old new) table))
+check_says tolerances old new table = unless_too_wide (first_too_wide tolerances) (λ fault. Words fault) (of_table (certificate_says (layers tolerances old new) table))
 
 -- what a ranking answers
-abbrev pub rank_says : List ℕ → Meaning → Meaning → List ℕ → Result ℕ FilesFault
+abbrev pub rank_says : List ℕ → Meaning → Meaning → List ℕ → Result ℕ WordsFault
 rank_says tolerances old new table = unless_too_wide (first_too_wide tolerances) (λ fault. fault) (with_fault (ranking_says (layers tolerances old new) table))
 
 -- the table that it leaves

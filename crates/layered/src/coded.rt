@@ -18,7 +18,7 @@ pub struct Code {
 }
 
 /// What a refusal of the codes is about, as a number: the one behind those that `hosting` gives.
-const CODES_ITEM: u8 = 8;
+const CODES_ITEM: u8 = 10;
 
 /// The refusal of the codes.
 fn codes_refusal(fault: CodeFault) -> Refusal
@@ -102,7 +102,7 @@ pub extern "C" fn layered_decide_coded(
     ensures table { table.new ≡ if_granted (codes_fault codes.now) (decide_does tolerances.now.channels (coded old_words.now codes.now channel cut) (coded new_words.now codes.now channel cut) table.old) table.old }
 {
     match Sides::new(old_words, new_words, codes, channel, cut) {
-        Ok(sides) => Decision::of(decide(tolerances, &sides.old, &sides.new, table)),
+        Ok(sides) => Decision::of_words(decide(tolerances, &sides.old, &sides.new, table)),
         Err(fault) => Decision {
             refusal: codes_refusal(fault),
             swept: 0,
@@ -150,7 +150,7 @@ pub extern "C" fn layered_rank_coded(
     ensures table { table.new ≡ if_granted (codes_fault codes.now) (rank_does tolerances.now.channels (coded old_words.now codes.now channel cut) (coded new_words.now codes.now channel cut) table.old) table.old }
 {
     match Sides::new(old_words, new_words, codes, channel, cut) {
-        Ok(sides) => Ranks::of(rank(tolerances, &sides.old, &sides.new, table)),
+        Ok(sides) => Ranks::of_words(rank(tolerances, &sides.old, &sides.new, table)),
         Err(fault) => Ranks {
             refusal: codes_refusal(fault),
             highest: 0,

@@ -2,7 +2,7 @@
 ghost use Rattle.std.specs.Prelude.{◌≡◌};
 ghost use Rattle.systems.specs.Joint.{joint};
 ghost use Rattle.systems.specs.Layout.{stored_words};
-ghost use Rattle.hosting.specs.Answers.{certificate_of, decision_of, ranks_of};
+ghost use Rattle.hosting.specs.Answers.{certificate_of, decision_of, ranks_of, words_refusal};
 ghost use Rattle.hosting.specs.Held.{held};
 ghost use Rattle.layered.specs.Layers.{check_says, decide_does, decide_says, rank_does, rank_says};
 
@@ -28,12 +28,15 @@ pub extern "C" fn layered_decide_joints(
     second_new: &[u16],
     table: &mut [u32],
 ) -> Decision
-    ensures answer { result ≡ decision_of (decide_says tolerances.now.channels (joint (held first_old.now) (held second_old.now)) (joint (held first_new.now) (held second_new.now)) table.old) }
+    ensures answer { result
+        ≡ decision_of words_refusal
+        (decide_says tolerances.now.channels (joint (held first_old.now) (held second_old.now))
+        (joint (held first_new.now) (held second_new.now)) table.old) }
     ensures table { table.new ≡ decide_does tolerances.now.channels (joint (held first_old.now) (held second_old.now)) (joint (held first_new.now) (held second_new.now)) table.old }
 {
     let old = joint(first_old, second_old);
     let new = joint(first_new, second_new);
-    Decision::of(decide(tolerances, &old, &new, table))
+    Decision::of_words(decide(tolerances, &old, &new, table))
 }
 
 /// Checks a table as a certificate of the exchange of two joints.
@@ -63,10 +66,13 @@ pub extern "C" fn layered_rank_joints(
     second_new: &[u16],
     table: &mut [u32],
 ) -> Ranks
-    ensures answer { result ≡ ranks_of (rank_says tolerances.now.channels (joint (held first_old.now) (held second_old.now)) (joint (held first_new.now) (held second_new.now)) table.old) }
+    ensures answer { result
+        ≡ ranks_of words_refusal
+        (rank_says tolerances.now.channels (joint (held first_old.now) (held second_old.now))
+        (joint (held first_new.now) (held second_new.now)) table.old) }
     ensures table { table.new ≡ rank_does tolerances.now.channels (joint (held first_old.now) (held second_old.now)) (joint (held first_new.now) (held second_new.now)) table.old }
 {
     let old = joint(first_old, second_old);
     let new = joint(first_new, second_new);
-    Ranks::of(rank(tolerances, &old, &new, table))
+    Ranks::of_words(rank(tolerances, &old, &new, table))
 }

@@ -1,21 +1,23 @@
 //! The likeness of readings that differ little.
 ghost use Rattle.std.specs.Prelude.{◌≡◌, ◌<◌, ◌≤◌, replicate, Some, None, IfErr, IfOk, MatchResult};
-ghost use Rattle.likeness.specs.Within.{Mild, first_too_wide, set_answer, tolerance_of, tolerance_refusal, tolerances_after, within};
+ghost use Rattle.likeness.specs.Within.{Mild, first_too_wide, max_tolerance, set_answer, tolerance_channels, tolerance_of, tolerance_refusal, tolerances_after, within};
 ghost use Rattle.likeness.specs.declared.within.ToleranceFault.TheVariants.{TooWide};
 
 use crate::likeness::Likeness;
+use systems::{LayoutFault, MAX_CHANNELS};
 
 /// The widest tolerance.
 pub const MAX_TOLERANCE: u16 = 1_000;
 
-/// How many channels, from channel 0 on, can have a tolerance.
-pub const TOLERANCE_CHANNELS: usize = 8;
+/// How many channels, from channel 0 on, can have a tolerance: as many as a system has whose readings are compared.
+// A cast, since no `From` goes into a constant.
+pub const TOLERANCE_CHANNELS: usize = MAX_CHANNELS as usize;
 
 /// Why a tolerance is not set, and the number of that refusal.
 #[derive(Clone, Copy, Debug, PartialEq, Eq)]
 pub enum ToleranceFault {
     /// The channel can have no tolerance.
-    NoChannel = 19,
+    NoChannel = LayoutFault::Channels as isize,
     /// The tolerance is wider than the widest.
     TooWide = 27,
 }
@@ -80,7 +82,7 @@ fn first_too_wide(tolerances: &[u16; TOLERANCE_CHANNELS]) -> Option<usize>
 impl Within {
     /// Tolerance 0 on every channel.
     pub fn new() -> Within
-        ensures { result.tolerances ≡ replicate 8 0 }
+        ensures { result.tolerances ≡ replicate tolerance_channels 0 }
     {
         Within {
             tolerances: [0; TOLERANCE_CHANNELS],
@@ -89,8 +91,10 @@ impl Within {
 
     /// The same tolerance on every channel that can have one.
     pub fn uniform(tolerance: u16) -> Result<Within, ToleranceFault>
-        ensures granted { IfOk result (λ within. (tolerance ≤ 1000) × (within.tolerances ≡ replicate 8 tolerance)) }
-        ensures refused { IfErr result (λ fault. (1000 < tolerance) × (fault ≡ TooWide)) }
+        ensures granted { IfOk result (λ within.
+            (tolerance ≤ max_tolerance)
+            × (within.tolerances ≡ replicate tolerance_channels tolerance)) }
+        ensures refused { IfErr result (λ fault. (max_tolerance < tolerance) × (fault ≡ TooWide)) }
     {
         if tolerance > MAX_TOLERANCE {
             return Err(ToleranceFault::TooWide);

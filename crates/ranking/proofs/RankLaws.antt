@@ -1,19 +1,18 @@
 -- What a table tells whose entries are the ranks, and what a ranking leaves.
-use Rattle.std.proofs.Common.{◌≡◌, ℕ, zero, suc, ◌+◌, ◌*◌, ◌/◌, ◌%◌, ◌<◌, ◌≤◌, true, false, not, ◌&&◌, eqb, ltb, List, length, get_or, drop, Some, None, sym, ap, ◌∙◌, subst, inl, inr, arith}
+use Rattle.std.proofs.Common.{◌≡◌, ℕ, zero, suc, ◌+◌, ◌*◌, ◌<◌, ◌≤◌, true, false, not, ◌&&◌, eqb, ltb, List, length, get_or, drop, Some, None, sym, ap, ◌∙◌, subst, inl, inr, arith}
 use native.Mathlib.Nat.{le-max_left, le-max_right}
-use Rattle.std.proofs.lemmas.Nat.{div-add-mod', div_below, mod_below}
-use Rattle.std.proofs.lemmas.Bool.{and_from, and_parts, cases_Bool, cases_eq, cases_lt, eqb-false, eqb-true, lt-ltb, ltb-true, not_from_false, not_from_true, not-true, or_from, or_left, or_right}
+use Rattle.std.proofs.lemmas.Bool.{and_from, and_parts, both_ways, cases_Bool, cases_eq, cases_lt, eq-eqb, eqb-false, eqb-true, lt-ltb, ltb-true, ne_eqb, not_from_false, not_from_true, not-true, or_from, or_left, or_right}
 use Rattle.systems.specs.Refused.{if_granted}
 use Rattle.arena.proofs.Bounds.{count_below_most}
+use Rattle.arena.proofs.Places.{place_below}
 use Rattle.arena.proofs.Simulation.{Calm, Ordered, largest, refuted_more}
 use Rattle.arena.specs.Arena.{Arena, Closed}
 use Rattle.arena.specs.Pairs.{refuted}
-use Rattle.arena.specs.Table.{entry, pairs, struck}
-use Rattle.docket.proofs.Good.{place}
+use Rattle.arena.specs.Table.{entry, highest, highest_below, pairs, stands, struck}
 use Rattle.docket.proofs.Grounds.{fitting_room, openable_fits}
 use Rattle.docket.proofs.Laws.{settled_accepted}
 use Rattle.ranking.proofs.Ranked.{rounds_keep, rounds_solve, seen, sighted_below}
-use Rattle.ranking.specs.Rank.{RanksRight, SolvesRanks, highest, highest_below, rank_does, ranked, sighted}
+use Rattle.ranking.specs.Rank.{RanksRight, SolvesRanks, rank_does, ranked, sighted}
 use Rattle.docket.specs.Refusals.{opening_refusal}
 
 module _ (A : Arena) (c : Closed A) where
@@ -24,7 +23,7 @@ module _ (A : Arena) (c : Closed A) where
       elim (cases_Bool (A.alike w v)) [
         | inr e ↦ (ht w v lw lv).unlike e ∙ sym ((hs w v lw lv).unlike e)
         | inl e ↦
-            let rank = (hs w v lw lv).reached e some in
+            let rank = (hs w v lw lv).reached e (ne_eqb (entry A s w v) 0 some) in
             let refuted_there : refuted A (struck A t (Some (entry A s w v))) w v ≡ true =
             refuted_more A c (struck A s (Some (entry A s w v))) (struck A t (Some (entry A s w v)))
             (λ a b la lb h.
@@ -35,7 +34,7 @@ module _ (A : Arena) (c : Closed A) where
             w v rank.1 in
             let there = (ht w v lw lv).least e (entry A s w v) rank.0 refuted_there in
             elim (cases_lt (entry A t w v) (entry A s w v)) [
-              | inl less ↦ sym (same_below k t s ht hs w v lw lv there.0 (omega arith))
+              | inl less ↦ sym (same_below k t s ht hs w v lw lv (eqb-false (entry A t w v) 0 there.0) (omega arith))
               | inr high ↦ omega (arith, there.1)
             ]
       ]
@@ -49,18 +48,6 @@ module _ (A : Arena) (c : Closed A) where
           | inl also ↦ none ∙ sym also
           | inr some ↦ same_below (suc (entry A t w v)) t s ht hs w v lw lv some (omega arith)
         ]
-      ]
-
-  pub same_ranks : (s t : List ℕ) → SolvesRanks A s → SolvesRanks A t → (i : ℕ) → i < pairs A → get_or s i 0 ≡ get_or t i 0
-  same_ranks s t hs ht i l =
-      elim (cases_eq A.new_states 0) [
-        | inl none ↦
-            let empty : pairs A ≡ A.old_states * 0 = ap (λ n. A.old_states * n) none in
-            absurd (omega (arith, l, empty))
-        | inr some ↦
-            let row = div_below i A.new_states A.old_states (omega arith) l in
-            let column = mod_below i A.new_states (omega arith) in
-            subst (λ j. get_or s j 0 ≡ get_or t j 0) (div-add-mod' i A.new_states) (same_rank s t hs ht (i / A.new_states) (i % A.new_states) row column)
       ]
 
 -- no entry is above the highest
@@ -78,7 +65,7 @@ module _ (A : Arena) (c : Closed A) (t : List ℕ) (solves : SolvesRanks A t) wh
   ranks_ordered w v lw lv struck_so =
       elim (cases_Bool (A.alike w v)) [
         | inr e ↦ or_left (not (A.alike w v)) (refuted A (struck A t (Some (entry A t w v))) w v) (not_from_false (A.alike w v) e)
-        | inl e ↦ or_right (not (A.alike w v)) (refuted A (struck A t (Some (entry A t w v))) w v) ((solves w v lw lv).reached e (eqb-false (entry A t w v) 0 struck_so)).1
+        | inl e ↦ or_right (not (A.alike w v)) (refuted A (struck A t (Some (entry A t w v))) w v) ((solves w v lw lv).reached e struck_so).1
       ]
 
   -- every struck pair counts above the highest entry
@@ -92,9 +79,9 @@ module _ (A : Arena) (c : Closed A) (t : List ℕ) (solves : SolvesRanks A t) wh
         | inl r ↦
             let later : refuted A (struck A t (Some above_all)) w v ≡ true =
             refuted_more A c (struck A t None) (struck A t (Some above_all))
-            (λ a b la lb h. and_from (not (eqb (entry A t a b) 0)) (ltb (entry A t a b) above_all) h (lt-ltb (entry A t a b) above_all (omega (arith, entry_most (pairs A) t (a * A.new_states + b) (place A a b la lb)))))
+            (λ a b la lb h. and_from (not (eqb (entry A t a b) 0)) (ltb (entry A t a b) above_all) h (lt-ltb (entry A t a b) above_all (omega (arith, entry_most (pairs A) t (a * A.new_states + b) (place_below A a b la lb)))))
             w v r in
-            absurd (((solves w v lw lv).least e above_all (omega arith) later).0 none)
+            absurd (both_ways (stands A t w v) ((solves w v lw lv).least e above_all (omega arith) later).0 (eq-eqb (entry A t w v) 0 none))
       ]
 
   ranks_calm : Calm A t
@@ -128,7 +115,7 @@ module _ (A : Arena) (c : Closed A) (before : List ℕ) (granted : opening_refus
       let calm = ranks_calm A c (ranked A before) ranked_solves in
       record {
         solves = ranked_solves;
-        only = λ other h. same_ranks A c other (ranked A before) h ranked_solves;
+        only = λ other h. same_rank A c other (ranked A before) h ranked_solves;
         largest = largest A c (ranked A before) ordered calm;
         accepted = settled_accepted A (ranked A before) (subst (λ n. opening_refusal A n ≡ None) (sym ranked_keeps.0) granted) ordered calm;
         rest = ranked_keeps.1;

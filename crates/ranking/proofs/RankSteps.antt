@@ -1,20 +1,17 @@
 -- The steps of the loops of a ranking.
-use Rattle.std.proofs.Common.{◌≡◌, ℕ, zero, suc, ◌+◌, ◌-◌, ◌<◌, ◌≤◌, max, ◌&&◌, eqb, List, [], ◌∷◌, length, get_or, take, Some, sym, refl, ap, ◌∙◌, arith}
-use Rattle.std.proofs.Math.Seq.{take-suc}
+use Rattle.std.proofs.Common.{◌≡◌, ℕ, zero, suc, ◌+◌, ◌-◌, ◌<◌, ◌&&◌, eqb, List, Some, sym, refl, ap, ◌∙◌, arith}
 use Rattle.std.proofs.lemmas.Bool.{cond_both, cond-false, cond-true, eq-eqb, ne_eqb}
-use Rattle.std.proofs.lemmas.List.Sums.{fold-append}
-use Rattle.std.specs.List.{fold, reduce}
-use Rattle.std.specs.Prelude.{unwrap_or}
 use Rattle.arena.specs.Arena.{Arena}
 use Rattle.arena.specs.Pairs.{refuted}
 use Rattle.arena.specs.Table.{stands, struck}
-use Rattle.ranking.specs.Rank.{Ranking, highest_below, rank_pair, rank_round, rank_rounds, rank_row, rank_rows, ranking, with_entry}
+use Rattle.arena.specs.Written.{with_struck}
+use Rattle.ranking.specs.Rank.{Ranking, rank_pair, rank_round, rank_rounds, rank_row, rank_rows, ranking}
 
 -- What adds no rank changes nothing.
 module _ (A : Arena) (k : ℕ) where
   pair_still : (w v : ℕ) (y : Ranking) → (rank_pair A k w v y).added ≡ 0 → rank_pair A k w v y ≡ y
   pair_still w v y =
-      cond_both (stands A y.table w v && refuted A (struck A y.table (Some k)) w v) (ranking (with_entry A y.table w v k) (y.added + 1)) y (λ z. z.added ≡ 0 → z ≡ y)
+      cond_both (stands A y.table w v && refuted A (struck A y.table (Some k)) w v) (ranking (with_struck A y.table w v k) (y.added + 1)) y (λ z. z.added ≡ 0 → z ≡ y)
       (λ _ none. absurd (omega (arith, none)))
       (λ _ none. refl)
 
@@ -44,20 +41,3 @@ pub rounds_go_on : (A : Arena) (end k : ℕ) (t : List ℕ) → k < end → ((ra
 rounds_go_on A end k t l some =
     let more : end - k ≡ suc (end - (k + 1)) = omega arith in
     sym (ap (λ n. rank_rounds A n k t) more ∙ cond-false (eqb (rank_round A k t).added 0) t (rank_rounds A (end - (k + 1)) (k + 1) (rank_round A k t).table) (ne_eqb (rank_round A k t).added 0 some))
-
--- the highest of the first entries, as a fold over them
-folded : (n : ℕ) (t : List ℕ) → n ≤ length t → fold max 0 (take n t) ≡ highest_below n t
-folded zero t l = refl
-folded (suc n) t l =
-    let less : n < length t = omega arith in
-    rw (take-suc t n 0 less, fold-append) (ap (λ h. max h (get_or t n 0)) (folded n t (omega arith)))
-
-reduced : (xs : List ℕ) → unwrap_or (reduce max xs) 0 ≡ fold max 0 xs
-reduced [] = refl
-reduced (x ∷ xs) =
-    let same : x ≡ max 0 x = omega arith in
-    ap (λ y. fold max y xs) same
-
--- the highest of the first entries, or 0 where there is none
-pub highest_of : (n : ℕ) (t : List ℕ) → n ≤ length t → unwrap_or (reduce max (take n t)) 0 ≡ highest_below n t
-highest_of n t l = reduced (take n t) ∙ folded n t l

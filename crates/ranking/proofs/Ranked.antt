@@ -3,14 +3,16 @@ use Rattle.std.proofs.Common.{◌≡◌, ℕ, zero, suc, ◌+◌, ◌*◌, ◌<�
 use Rattle.std.proofs.lemmas.List.{drop-set-lt, get_or-set_other, get_or-set_same, length-set}
 use Rattle.std.proofs.lemmas.Bool.{and_from, and_left, and_parts, and_right, both_ways, cases_Bool, cases_eq, cases_lt, cond_both, cond-false, cond-true, eq-eqb, eqb-false, eqb-true, le-ltb, lt-ltb, ne_eqb}
 use Rattle.arena.proofs.Bounds.{count_below_one_more}
+use Rattle.arena.proofs.Places.{place_below, same_pair}
 use Rattle.arena.proofs.Simulation.{refuted_more}
 use Rattle.arena.specs.Arena.{Arena, Closed}
 use Rattle.arena.specs.Bounds.{count_below}
 use Rattle.arena.specs.Pairs.{Relation, refuted}
-use Rattle.arena.specs.Table.{counts, entry, number_standing, pairs, stands, struck}
-use Rattle.docket.proofs.Good.{place, same_pair}
+use Rattle.arena.specs.Entry.{counts, standing_entry, struck_entry}
+use Rattle.arena.specs.Table.{entry, number_standing, pairs, stands, struck}
+use Rattle.arena.specs.Written.{with_entry, with_standing, with_struck}
 use Rattle.ranking.proofs.RankSteps.{round_still}
-use Rattle.ranking.specs.Rank.{Ranking, SolvesRanks, rank_pair, rank_round, rank_rounds, rank_row, rank_rows, ranking, sight_rank, sight_row, sight_rows, sighted, with_entry}
+use Rattle.ranking.specs.Rank.{Ranking, SolvesRanks, rank_pair, rank_round, rank_rounds, rank_row, rank_rows, ranking, sight_pair, sight_rank, sight_row, sight_rows, sighted}
 
 -- Entries written by place: those of the pairs below the n-th are new, and all others are as before.
 pub record Filled (A : Arena) (new : ℕ → ℕ → ℕ) (before : List ℕ) (n : ℕ) (t : List ℕ) : Type 0 where
@@ -32,12 +34,12 @@ module _ (A : Arena) (new : ℕ → ℕ → ℕ) (before : List ℕ) where
           | inl e ↦
               let p = same_pair A w v a b lv lb e in
               ap (λ j. get_or (with_entry A t w v (new w v)) j 0) e
-              ∙ get_or-set_same t (w * A.new_states + v) (new w v) 0 (omega (arith, place A w v lw lv, h.size))
+              ∙ get_or-set_same t (w * A.new_states + v) (new w v) 0 (omega (arith, place_below A w v lw lv, h.size))
               ∙ ap (λ x. new x v) p.0 ∙ ap (λ y. new a y) p.1
           | inr e ↦ get_or-set_other t (w * A.new_states + v) (a * A.new_states + b) (new w v) 0 e ∙ h.done a b lb (omega arith)
         ];
         left = λ j l. get_or-set_other t (w * A.new_states + v) j (new w v) 0 (omega arith) ∙ h.left j (omega arith);
-        rest = drop-set-lt (pairs A) t (w * A.new_states + v) (new w v) (place A w v lw lv) ∙ h.rest;
+        rest = drop-set-lt (pairs A) t (w * A.new_states + v) (new w v) (place_below A w v lw lv) ∙ h.rest;
       }
 
   -- or its new entry is the one that it has
@@ -55,19 +57,31 @@ module _ (A : Arena) (new : ℕ → ℕ → ℕ) (before : List ℕ) where
         rest = h.rest;
       }
 
+-- what sight writes for a pair
+abbrev sight_entry : Arena → ℕ → ℕ → ℕ
+sight_entry A w v = cond (A.alike w v) standing_entry (struck_entry sight_rank)
+
+sight_writes : (A : Arena) (w v : ℕ) (t : List ℕ) → with_entry A t w v (sight_entry A w v) ≡ sight_pair A w v t
+sight_writes A w v t = by (A.alike w v)
+  where
+    by : (b : Bool) → with_entry A t w v (cond b standing_entry (struck_entry sight_rank)) ≡ cond b (with_standing A t w v) (with_struck A t w v sight_rank)
+    by true = refl
+    by false = refl
+
 -- every pair by sight
 module _ (A : Arena) (before : List ℕ) (room : pairs A ≤ length before) where
   abbrev Seen : ℕ → List ℕ → Type 0
-  Seen n t = Filled A (λ w v. sight_rank A w v) before n t
+  Seen n t = Filled A (λ w v. sight_entry A w v) before n t
 
   seen_row : (w v : ℕ) → w < A.old_states → v ≤ A.new_states → (t : List ℕ) → Seen (w * A.new_states) t → Seen (w * A.new_states + v) (sight_row A w v t)
   seen_row w zero lw lv t h = subst (λ n. Seen n t) (omega arith) h
   seen_row w (suc v) lw lv t h =
       subst (λ n. Seen n (sight_row A w (suc v) t)) (omega arith)
-      (filled_next A (λ w v. sight_rank A w v) before (sight_row A w v t) w v lw (omega arith) room (seen_row w v lw (omega arith) t h))
+      (subst (λ u. Seen (suc (w * A.new_states + v)) u) (sight_writes A w v (sight_row A w v t))
+      (filled_next A (λ w v. sight_entry A w v) before (sight_row A w v t) w v lw (omega arith) room (seen_row w v lw (omega arith) t h)))
 
   seen_rows : (w : ℕ) → w ≤ A.old_states → Seen (w * A.new_states) (sight_rows A w before)
-  seen_rows zero lw = subst (λ n. Seen n before) (sym (zero-mul A.new_states)) (filled_none A (λ w v. sight_rank A w v) before)
+  seen_rows zero lw = subst (λ n. Seen n before) (sym (zero-mul A.new_states)) (filled_none A (λ w v. sight_entry A w v) before)
   seen_rows (suc w) lw =
       subst (λ n. Seen n (sight_rows A (suc w) before)) (sym (suc-mul w A.new_states))
       (seen_row w A.new_states (omega arith) (omega arith) (sight_rows A w before) (seen_rows w (omega arith)))
@@ -132,10 +146,10 @@ module _ (A : Arena) (c : Closed A) (k : ℕ) (some : 0 < k) (t : List ℕ) (roo
       cond_both (stands A y.table w v && refuted A (struck A y.table (Some k)) w v) (ranking (with_entry A y.table w v k) (y.added + 1)) y (λ z. Rounding (suc (w * A.new_states + v)) z)
       (λ e.
       let stood = (and_parts (stands A y.table w v) (refuted A (struck A y.table (Some k)) w v) e).0 in
-      let within : w * A.new_states + v < length y.table = omega (arith, place A w v lw lv, h.filled.size) in
+      let within : w * A.new_states + v < length y.table = omega (arith, place_below A w v lw lv, h.filled.size) in
       let written : get_or (with_entry A y.table w v k) (w * A.new_states + v) 0 ≡ k = get_or-set_same y.table (w * A.new_states + v) k 0 within in
       let fewer : number_standing A y.table ≡ number_standing A (with_entry A y.table w v k) + 1 =
-      count_below_one_more (pairs A) (w * A.new_states + v) (λ i. eqb (get_or (with_entry A y.table w v k) i 0) 0) (λ i. eqb (get_or y.table i 0) 0) (place A w v lw lv)
+      count_below_one_more (pairs A) (w * A.new_states + v) (λ i. eqb (get_or (with_entry A y.table w v k) i 0) 0) (λ i. eqb (get_or y.table i 0) 0) (place_below A w v lw lv)
       (ne_eqb (get_or (with_entry A y.table w v k) (w * A.new_states + v) 0) 0 (omega (arith, written)))
       stood
       (λ j l ne. ap (λ e. eqb e 0) (get_or-set_other y.table (w * A.new_states + v) j k 0 ne)) in
@@ -173,7 +187,7 @@ module _ (A : Arena) (c : Closed A) (k : ℕ) (some : 0 < k) (t : List ℕ) (roo
         | inl e ↦
             let stood = eqb-true (entry A t w v) 0 (and_parts (stands A t w v) (refuted A (struck A t (Some k)) w v) e).0 in
             let now : entry A t w v ≡ k =
-            ap (λ u. entry A u w v) (sym (round_still A k t none)) ∙ rounded.filled.done w v lv (place A w v lw lv) ∙ cond-true (ranks_now w v) k (entry A t w v) e in
+            ap (λ u. entry A u w v) (sym (round_still A k t none)) ∙ rounded.filled.done w v lv (place_below A w v lw lv) ∙ cond-true (ranks_now w v) k (entry A t w v) e in
             absurd (omega (arith, stood, now))
       ]
 
@@ -190,7 +204,7 @@ RankedBelow A k t = (w v : ℕ) → w < A.old_states → v < A.new_states → Ru
 -- sight decides what is below 2
 pub sighted_below : (A : Arena) (before : List ℕ) → pairs A ≤ length before → RankedBelow A 2 (sighted A before)
 sighted_below A before room w v lw lv =
-    let is : entry A (sighted A before) w v ≡ sight_rank A w v = (seen A before room).done w v lv (place A w v lw lv) in
+    let is : entry A (sighted A before) w v ≡ sight_entry A w v = (seen A before room).done w v lv (place_below A w v lw lv) in
     record {
       unlike = λ e. is ∙ cond-false (A.alike w v) 0 1 e;
       reached = λ e ne. absurd (ne (is ∙ cond-true (A.alike w v) 0 1 e));
@@ -209,10 +223,10 @@ module _ (A : Arena) (c : Closed A) (k : ℕ) (low : 2 ≤ k) (t : List ℕ) (ro
 
   -- what the round leaves for a pair
   ranked_in_it : (w v : ℕ) → w < A.old_states → v < A.new_states → now_ranked w v ≡ true → entry A after_round w v ≡ k
-  ranked_in_it w v lw lv e = round_filled.done w v lv (place A w v lw lv) ∙ cond-true (now_ranked w v) k (entry A t w v) e
+  ranked_in_it w v lw lv e = round_filled.done w v lv (place_below A w v lw lv) ∙ cond-true (now_ranked w v) k (entry A t w v) e
 
   ranked_before : (w v : ℕ) → w < A.old_states → v < A.new_states → now_ranked w v ≡ false → entry A after_round w v ≡ entry A t w v
-  ranked_before w v lw lv e = round_filled.done w v lv (place A w v lw lv) ∙ cond-false (now_ranked w v) k (entry A t w v) e
+  ranked_before w v lw lv e = round_filled.done w v lv (place_below A w v lw lv) ∙ cond-false (now_ranked w v) k (entry A t w v) e
 
   -- a pair that had a rank keeps it
   rank_kept : (w v : ℕ) → w < A.old_states → v < A.new_states → (entry A t w v ≡ 0 → ⊥) → entry A after_round w v ≡ entry A t w v
@@ -290,14 +304,14 @@ module _ (A : Arena) (c : Closed A) (k : ℕ) (low : 2 ≤ k) (t : List ℕ) (be
   ended_solves w v lw lv =
       record {
         unlike = (below w v lw lv).unlike;
-        reached = λ e had. let was = (below w v lw lv).reached e had in (was.0, was.2);
+        reached = λ e had. let was = (below w v lw lv).reached e (eqb-false (entry A t w v) 0 had) in (was.0, was.2);
         least = λ e j lj r. elim (cases_lt j k) [
-          | inl before ↦ (below w v lw lv).least e j lj before r
+          | inl before ↦ let was = (below w v lw lv).least e j lj before r in (ne_eqb (entry A t w v) 0 was.0, was.1)
           | inr later ↦
               let refuted_at : refuted A (struck A t (Some k)) w v ≡ true = sym (refuted_same A c (struck A t (Some j)) (struck A t (Some k)) (struck_later j later) w v) ∙ r in
               let had : entry A t w v ≡ 0 → ⊥ =
               λ is. both_ways (stands A t w v && refuted A (struck A t (Some k)) w v) (none w v lw lv) (and_from (stands A t w v) (refuted A (struck A t (Some k)) w v) (eq-eqb (entry A t w v) 0 is) refuted_at) in
-              (had, omega (arith, entries_below w v lw lv))
+              (ne_eqb (entry A t w v) 0 had, omega (arith, entries_below w v lw lv))
         ];
       }
 
@@ -315,7 +329,7 @@ full_none : (A : Arena) (k : ℕ) (t : List ℕ) → number_standing A t ≡ 0 �
 full_none A k t full w v lw lv =
     elim (cases_Bool (stands A t w v)) [
       | inr e ↦ and_left (stands A t w v) (refuted A (struck A t (Some k)) w v) e
-      | inl e ↦ absurd (omega (arith, full, counted_some (pairs A) (w * A.new_states + v) (λ i. eqb (get_or t i 0) 0) (place A w v lw lv) e))
+      | inl e ↦ absurd (omega (arith, full, counted_some (pairs A) (w * A.new_states + v) (λ i. eqb (get_or t i 0) 0) (place_below A w v lw lv) e))
     ]
 
 -- whether a round adds no rank

@@ -1,35 +1,45 @@
 -- Ranks: how soon each pair is refuted.
-use Rattle.std.specs.Prelude.{◌≡◌, ℕ, zero, suc, ◌+◌, ◌*◌, ◌<◌, ◌≤◌, max, true, false, cond, ◌&&◌, List, length, drop, Some, Ok, Result, ◌==◌, ◌≢◌, slice_index, slice_set}
+use Rattle.std.specs.Prelude.{◌≡◌, ℕ, zero, suc, ◌+◌, ◌<◌, ◌≤◌, true, false, cond, ◌&&◌, List, length, drop, Some, Ok, Result, ◌==◌}
 use Rattle.systems.specs.Refused.{if_granted, unless}
 use Rattle.arena.specs.Arena.{Arena}
 use Rattle.arena.specs.Pairs.{Largest, refuted}
-use Rattle.arena.specs.Table.{entry, pairs, standing, stands, struck}
+use Rattle.arena.specs.Table.{highest, number_of, pairs, standing, stands, struck}
+use Rattle.arena.specs.Written.{with_standing, with_struck}
 use Rattle.docket.specs.Certificate.{certificate, certificate_says}
 use Rattle.docket.specs.Refusals.{opening_refusal}
 use Rattle.docket.specs.declared.refusal.Refusal.{Refusal}
 
--- The rule for one pair: an unlike pair has rank 1; any other has the least k from 2 on at which a move refutes it by entries from 1 to k - 1 alone, and rank 0 where no k will do.
-pub record RankRule (A : Arena) (table : List ℕ) (w v : ℕ) : Type 0 where
-  pub unlike : A.alike w v ≡ false → entry A table w v ≡ 1
-  pub reached : A.alike w v ≡ true → (entry A table w v ≢ 0) → (2 ≤ entry A table w v) × (refuted A (struck A table (Some (entry A table w v))) w v ≡ true)
-  pub least : A.alike w v ≡ true → (k : ℕ) → 2 ≤ k → refuted A (struck A table (Some k)) w v ≡ true → (entry A table w v ≢ 0) × (entry A table w v ≤ k)
+-- the rank of an unlike pair
+abbrev pub sight_rank : ℕ
+sight_rank = 1
 
--- the entry of every pair is its rank
+-- the least rank of any other pair, and so the first round
+abbrev pub first_round : ℕ
+first_round = 2
+
+-- The rule for one pair: an unlike pair has the rank of sight; any other has the least k from the first round on at which a move refutes it by the pairs with smaller numbers alone, and stands where no k will do.
+pub record RankRule (A : Arena) (table : List ℕ) (w v : ℕ) : Type 0 where
+  pub unlike : A.alike w v ≡ false → number_of A table w v ≡ sight_rank
+  pub reached : A.alike w v ≡ true → stands A table w v ≡ false → (first_round ≤ number_of A table w v) × (refuted A (struck A table (Some (number_of A table w v))) w v ≡ true)
+  pub least : A.alike w v ≡ true → (k : ℕ) → first_round ≤ k → refuted A (struck A table (Some k)) w v ≡ true → (stands A table w v ≡ false) × (number_of A table w v ≤ k)
+
+-- the number of every pair is its rank
 abbrev pub SolvesRanks : Arena → List ℕ → Type 0
 SolvesRanks A table = (w v : ℕ) → w < A.old_states → v < A.new_states → RankRule A table w v
 
--- the table with another entry for a pair
-abbrev pub with_entry : Arena → List ℕ → ℕ → ℕ → ℕ → List ℕ
-with_entry A table w v e = slice_set table (w * A.new_states + v) e
+-- two tables tell the same number of every pair
+abbrev pub SameNumbers : Arena → List ℕ → List ℕ → Type 0
+SameNumbers A table other =
+    (w v : ℕ) → w < A.old_states → v < A.new_states → number_of A table w v ≡ number_of A other w v
 
--- what sight tells of a pair: 1 if it is unlike
-abbrev pub sight_rank : Arena → ℕ → ℕ → ℕ
-sight_rank A w v = cond (A.alike w v) 0 1
+-- a pair by sight: an unlike one is struck, and any other stands
+abbrev pub sight_pair : Arena → ℕ → ℕ → List ℕ → List ℕ
+sight_pair A w v table = cond (A.alike w v) (with_standing A table w v) (with_struck A table w v sight_rank)
 
 -- the first so many pairs of an old state's row, by sight
 abbrev pub sight_row : Arena → ℕ → ℕ → List ℕ → List ℕ
 sight_row A w zero table = table
-sight_row A w (suc v) table = with_entry A (sight_row A w v table) w v (sight_rank A w v)
+sight_row A w (suc v) table = sight_pair A w v (sight_row A w v table)
 
 -- the first so many rows, by sight
 abbrev pub sight_rows : Arena → ℕ → List ℕ → List ℕ
@@ -49,11 +59,11 @@ pub record Ranking : Type 0 where
 abbrev pub ranking : List ℕ → ℕ → Ranking
 ranking table added = record { table = table; added = added }
 
--- in round k a pair that stands gets rank k if it is refuted when only entries from 1 to below k count
+-- in round k a pair that stands is struck as k if it is refuted by the pairs with smaller numbers
 abbrev pub rank_pair : Arena → ℕ → ℕ → ℕ → Ranking → Ranking
 rank_pair A k w v y =
     cond (stands A y.table w v && refuted A (struck A y.table (Some k)) w v)
-    (ranking (with_entry A y.table w v k) (y.added + 1))
+    (ranking (with_struck A y.table w v k) (y.added + 1))
     y
 
 -- the first so many pairs of an old state's row, in turn
@@ -78,18 +88,9 @@ rank_rounds A (suc most) k table =
     table
     (rank_rounds A most (k + 1) (rank_round A k table).table)
 
--- the ranks: every pair by sight, then the rounds from 2 on; each round but the last ranks a pair, so that there are no more of them than pairs
+-- the ranks: every pair by sight, then the rounds from the first on; each round but the last ranks a pair, so that there are no more of them than pairs
 abbrev pub ranked : Arena → List ℕ → List ℕ
-ranked A table = rank_rounds A (pairs A) 2 (sighted A table)
-
--- the highest of the first so many entries, 0 where there is none
-abbrev pub highest_below : ℕ → List ℕ → ℕ
-highest_below zero table = 0
-highest_below (suc i) table = max (highest_below i table) (slice_index table i)
-
--- the highest entry of a pair
-abbrev pub highest : Arena → List ℕ → ℕ
-highest A table = highest_below (pairs A) table
+ranked A table = rank_rounds A (pairs A) first_round (sighted A table)
 
 -- a ranking answers the highest rank
 abbrev pub rank_says : Arena → List ℕ → Result ℕ Refusal
@@ -99,10 +100,10 @@ rank_says A table = unless (opening_refusal A (length table)) (highest A (ranked
 abbrev pub rank_does : Arena → List ℕ → List ℕ
 rank_does A table = if_granted (opening_refusal A (length table)) (ranked A table) table
 
--- What a granted ranking leaves: the entries are the ranks, and no other table has others; the standing pairs are the largest simulation, the certificate check accepts the table, and the entries behind those of the pairs are as before.
+-- What a granted ranking leaves: the numbers are the ranks, and no other table has others; the standing pairs are the largest simulation, the certificate check accepts the table, and the entries behind those of the pairs are as before.
 pub record RanksRight (A : Arena) (before after : List ℕ) : Type 0 where
   pub solves : SolvesRanks A after
-  pub only : (other : List ℕ) → SolvesRanks A other → (i : ℕ) → i < pairs A → slice_index other i ≡ slice_index after i
+  pub only : (other : List ℕ) → SolvesRanks A other → SameNumbers A other after
   pub largest : Largest A (standing A after)
   pub accepted : certificate_says A after ≡ Ok (certificate A after)
   pub rest : drop (pairs A) after ≡ drop (pairs A) before

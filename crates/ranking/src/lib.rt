@@ -2,6 +2,5 @@
 #![tactic(auto)]
 
 mod ranking;
-mod table;
 
 pub use ranking::rank;

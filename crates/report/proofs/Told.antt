@@ -2,9 +2,10 @@
 use Rattle.std.proofs.Common.{rules, ◌≡◌, ℕ, List, length, replicate, Some, None, Err, Result, refl, sym, ap, ◌∙◌}
 use Rattle.std.specs.Prelude.{option_map}
 use Rattle.systems.specs.Meaning.{Meaning}
-use Rattle.likeness.specs.Within.{within}
+use Rattle.likeness.specs.Within.{tolerance_channels, within}
 use Rattle.arena.specs.Arena.{Arena}
 use Rattle.arena.specs.Exchange.{exchange}
+use Rattle.arena.specs.Written.{all_standing}
 use Rattle.docket.specs.Decide.{Decided, Told, proposals_answered}
 use Rattle.docket.specs.Position.{Position, View, closed, position}
 use Rattle.docket.specs.Refusals.{opening_refusal}
@@ -21,7 +22,7 @@ use Rattle.report.specs.Room.{table_room}
 use Rattle.report.specs.declared.fault.InputReason.TheVariants.{Opening}
 
 -- what was read of an input is its exchange
-pub exchange_is : (input : List ℕ) (old new : Meaning) (tolerances : List ℕ) → old ≡ old_system input → new ≡ new_system input → tolerances ≡ replicate 8 (tolerance input) → exchange old new (within tolerances) ≡ exchange_of input
+pub exchange_is : (input : List ℕ) (old new : Meaning) (tolerances : List ℕ) → old ≡ old_system input → new ≡ new_system input → tolerances ≡ replicate tolerance_channels (tolerance input) → exchange old new (within tolerances) ≡ exchange_of input
 exchange_is input old new tolerances o n t = rw (o, n, t) refl
 
 -- a decision of what was read is that of the input
@@ -34,8 +35,8 @@ pub answered_of : (input : List ℕ) (A : Arena) (docket : View) (table : List �
 unfolding begun
 answered_of input A docket table proposed r answers a d t p answered = rw (a, d, t, p) at answered
 
--- a table of so many zeros is one in which nothing is struck
-pub begun_from : (table : List ℕ) (n : ℕ) → table ≡ replicate n 0 → n ≡ table_room → table ≡ begun.table
+-- a table of so many pairs that stand is one in which nothing is struck
+pub begun_from : (table : List ℕ) (n : ℕ) → table ≡ all_standing n → n ≡ table_room → table ≡ begun.table
 unfolding begun
 begun_from table n t room = rw room at t
 

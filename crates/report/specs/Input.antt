@@ -3,16 +3,19 @@ use Rattle.std.specs.Prelude.{◌≡◌, ℕ, zero, suc, ◌≤◌, cond, List, 
 use Rattle.std.specs.List.{filter_map}
 use Rattle.std.specs.Result.{result_err}
 use Rattle.systems.specs.Bounded.{or_else}
+use Rattle.systems.specs.Layout.{words_taken}
+use Rattle.systems.specs.Limits.{max_channels}
 use Rattle.systems.specs.Meaning.{Meaning}
 use Rattle.arena.specs.declared.cause.Cause.TheVariants.{Sight, Move}
 use Rattle.docket.specs.declared.strike.Strike.{Strike}
-use Rattle.files.specs.Sequence.{number_at, value_at, after}
+use Rattle.codec.specs.Sequence.{number_at, value_at, after}
 use Rattle.files.specs.StrikeList.{record_at}
 use Rattle.files.specs.SystemFile.{described, file_fault, file_read, file_words}
 use Rattle.files.specs.declared.list_fault.ListFault.{ListFault}
 use Rattle.files.specs.declared.system_file.SystemFile.{SystemFile}
 use Rattle.files.specs.declared.record.Record.{Record}
 use Rattle.files.specs.declared.record.Record.TheVariants.{Sight as SightRecord, Move as MoveRecord, Maker, Remark}
+use Rattle.likeness.specs.Within.{max_tolerance, tolerance_channels}
 use Rattle.report.specs.Fault.{fault_at, of_list, of_system}
 use Rattle.report.specs.declared.fault.InputFault.{InputFault}
 use Rattle.report.specs.declared.fault.InputReason.TheVariants.{TooLong, Tolerance, TooWide}
@@ -22,9 +25,13 @@ use Rattle.report.specs.declared.input.Input.{Input}
 abbrev pub most_bytes : ℕ
 most_bytes = 32768
 
--- how many words there are for each system: enough for 64 states of eight channels
+-- how many states of the most channels there is room for in each system
+abbrev pub room_states : ℕ
+room_states = 64
+
+-- how many words there are for each system: enough for so many states
 abbrev pub system_room : ℕ
-system_room = 17026
+system_room = words_taken room_states max_channels
 
 -- the tolerance, which comes first
 abbrev pub tolerance : List ℕ → ℕ
@@ -101,7 +108,7 @@ length_fault input = cond (nat_lt most_bytes (length input)) (Some (fault_at Too
 abbrev pub tolerance_fault : List ℕ → Option InputFault
 tolerance_fault input =
     or_else (option_map (λ why. fault_at (Tolerance why) 0) (result_err (number_at input 0)))
-    (cond (nat_lt 1000 (tolerance input)) (Some (fault_at TooWide 0)) None)
+    (cond (nat_lt max_tolerance (tolerance input)) (Some (fault_at TooWide 0)) None)
 
 -- the first fault of the system file at a place
 abbrev pub system_fault : List ℕ → ℕ → Option InputFault
@@ -130,7 +137,7 @@ pub record IsFile (input : List ℕ) (start : ℕ) (file : SystemFile) : Type 0 
 pub record IsRead (input : List ℕ) (read : Input) : Type 0 where
   pub bytes : read.bytes.now ≡ input
   pub short : length input ≤ most_bytes
-  pub tolerances : read.likeness.tolerances ≡ replicate 8 (tolerance input)
+  pub tolerances : read.likeness.tolerances ≡ replicate tolerance_channels (tolerance input)
   pub old : IsFile input (old_place input) read.old
   pub new : IsFile input (new_place input) read.new
   pub list_place : read.list_place ≡ list_place input

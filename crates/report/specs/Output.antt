@@ -1,9 +1,10 @@
 -- The output for every input.
 use Rattle.std.specs.Prelude.{ℕ, List, replicate, Some, None, Option, Result, option_map}
 use Rattle.systems.specs.Bounded.{or_else}
-use Rattle.likeness.specs.Within.{within}
+use Rattle.likeness.specs.Within.{tolerance_channels, within}
 use Rattle.arena.specs.Arena.{Arena}
 use Rattle.arena.specs.Exchange.{exchange}
+use Rattle.arena.specs.Written.{all_standing}
 use Rattle.docket.specs.Decide.{Told, decision, proposals}
 use Rattle.docket.specs.Judge.{outcome_of}
 use Rattle.docket.specs.Position.{Position, closed, opened, position}
@@ -22,11 +23,11 @@ use Rattle.report.specs.declared.fault.InputReason.TheVariants.{Opening}
 
 -- the exchange of an input's two systems, whose readings may differ by the tolerance on every channel
 abbrev pub exchange_of : List ℕ → Arena
-exchange_of input = exchange (old_system input) (new_system input) (within (replicate 8 (tolerance input)))
+exchange_of input = exchange (old_system input) (new_system input) (within (replicate tolerance_channels (tolerance input)))
 
 -- a closed docket and a table in which nothing is struck
 unfoldable pub begun : Position
-begun = position closed (replicate table_room 0)
+begun = position closed (all_standing table_room)
 
 -- the fault of the opening, which is refused at the place of the list
 abbrev pub opening_fault : List ℕ → Option InputFault

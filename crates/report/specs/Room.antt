@@ -1,10 +1,10 @@
 -- How much memory a report takes.
 use Rattle.std.specs.Prelude.{ℕ, ◌+◌, ◌*◌}
-use Rattle.report.specs.Input.{most_bytes}
+use Rattle.report.specs.Input.{most_bytes, room_states}
 
--- how many entries the table has: one for each pair of 64 old and 64 new states
+-- how many entries the table has: one for each pair of states that there is room for
 abbrev pub table_room : ℕ
-table_room = 4096
+table_room = room_states * room_states
 
 -- how many strikes can be proposed at most: a record takes a byte or more
 abbrev pub most_strikes : ℕ

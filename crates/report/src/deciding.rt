@@ -1,7 +1,8 @@
 //! From the bytes of an input to what is printed for it.
-ghost use Rattle.std.specs.Prelude.{◌≡◌, ◌+◌, ◌*◌, ◌≤◌, ◌++◌, [], length, replicate, OnOk, vec_len, vec_capacity};
+ghost use Rattle.std.specs.Prelude.{◌≡◌, ◌+◌, ◌*◌, ◌≤◌, ◌++◌, [], length, OnOk, vec_len, vec_capacity};
+ghost use Rattle.arena.specs.Written.{all_standing};
 ghost use Rattle.files.specs.SystemFile.{described, file_words};
-ghost use Rattle.files.specs.Words.{Holds};
+ghost use Rattle.systems.specs.Layout.{Holds};
 ghost use Rattle.report.specs.Answer.{UnlessFault};
 ghost use Rattle.report.specs.Input.{IsRead, strikes};
 ghost use Rattle.report.specs.Lines.{outcome_lines, proposal_lines};
@@ -13,7 +14,7 @@ use crate::input::{Input, read_input};
 use crate::lines::{Line, answer_line, fault_line, standing_line, swept_line, verdict_line};
 use crate::list::read_strikes;
 use crate::memory::{Memory, Work};
-use arena::{Exchange, STANDING};
+use arena::Exchange;
 use docket::{DecideError, Docket, Grant, Outcome, Refusal, Strike};
 use files::SystemFile;
 use systems::Stored;
@@ -38,12 +39,12 @@ fn lay_out(file: &SystemFile<'_>, words: &mut Vec<u16>)
     lay_out_in_front(file, words);
 }
 
-/// Sets every entry to standing.
+/// Makes every entry of the table that of a pair that stands.
 fn clear(table: &mut Vec<u32>)
-    ensures entries { table.new.items ≡ replicate (vec_len table.old) 0 }
+    ensures entries { table.new.items ≡ all_standing (vec_len table.old) }
     ensures len { vec_len table.new ≡ vec_len table.old }
 {
-    table.fill(STANDING);
+    arena::clear(table);
 }
 
 /// Decides what was read of an input.
@@ -61,8 +62,12 @@ fn decide(input: &Input<'_>, work: &mut Work) -> Result<Outcome, InputFault>
     work.answers.clear();
     clear(&mut work.table);
     let exchange = Exchange {
-        old: &Stored::new(&work.old_words),
-        new: &Stored::new(&work.new_words),
+        old: &Stored {
+            words: &work.old_words,
+        },
+        new: &Stored {
+            words: &work.new_words,
+        },
         likeness: &input.likeness,
     };
     match Docket::new().decide(&exchange, &mut work.table, &work.strikes, &mut work.answers) {

@@ -1,21 +1,32 @@
 //! Reading an input: a tolerance, two system files, and a list of strikes to its end.
 ghost use Rattle.std.specs.Prelude.{◌≡◌, replicate};
 ghost use Rattle.std.specs.Result.{result_err};
-ghost use Rattle.files.specs.Sequence.{number_at};
+ghost use Rattle.likeness.specs.Within.{tolerance_channels};
 ghost use Rattle.report.specs.Answer.{UnlessFault};
-ghost use Rattle.report.specs.Input.{IsFile, IsRead, input_fault, length_fault, old_place, system_fault, tolerance, tolerance_fault};
+ghost use Rattle.report.specs.Input.{IsFile, IsRead, input_fault, length_fault, old_place, system_fault, system_room, tolerance, tolerance_fault};
 
 use crate::fault::{InputFault, InputReason};
 use crate::list::test_list;
-use codec::{NumberFault, read_number};
+use codec::Reader;
 use files::SystemFile;
 use likeness::Within;
+use systems::{MAX_CHANNELS, words_taken};
 
 /// How many bytes an input may have.
 pub const MOST_BYTES: usize = 32_768;
 
-/// How many words there are for each system: enough for 64 states of eight channels.
-pub const SYSTEM_ROOM: usize = 17_026;
+/// How many states of the most channels there is room for in each system.
+pub const ROOM_STATES: u16 = 64;
+
+/// How many words there are for each system: enough for so many states.
+pub fn system_room() -> usize
+    ensures { result ≡ system_room }
+{
+    let room = words_taken(ROOM_STATES, MAX_CHANNELS);
+    // what this comes to
+    prove!(room == 17_026);
+    room
+}
 
 /// An input of which no part is refused.
 #[derive(Clone, Copy)]
@@ -45,31 +56,26 @@ fn check_length(input: &[u8]) -> Result<(), InputFault>
     Ok(())
 }
 
-/// The number in front, and the place behind it.
-fn number_in_front(input: &[u8]) -> Result<(u16, usize), NumberFault>
-    ensures { result ≡ number_at input.now 0 }
-{
-    let (value, rest) = read_number(input)?;
-    Ok((value, input.len() - rest.len()))
-}
-
-/// Reads the tolerance for all channels; the answer has the place behind it.
-#[tactic(auto, unfolding(files::specs::Sequence::value_at, files::specs::Sequence::after))]
+/// Reads the tolerance for all channels, which comes first; the answer has the place behind it.
+#[tactic(auto, unfolding(codec::specs::Sequence::value_at, codec::specs::Sequence::after))]
 fn read_tolerance(input: &[u8]) -> Result<(Within, usize), InputFault>
-    ensures { UnlessFault (tolerance_fault input.now) (λ read. (read.0.tolerances ≡ replicate 8 (tolerance input.now)) × (read.1 ≡ old_place input.now)) result }
+    ensures { UnlessFault (tolerance_fault input.now) (λ read.
+        (read.0.tolerances ≡ replicate tolerance_channels (tolerance input.now))
+        × (read.1 ≡ old_place input.now)) result }
 {
     let place = 0;
-    match number_in_front(input) {
+    let mut reader = Reader::new(input, place);
+    match reader.number() {
         Err(why) => Err(InputFault {
             reason: InputReason::Tolerance(why),
             place,
         }),
-        Ok((tolerance, behind)) => match Within::uniform(tolerance) {
+        Ok(tolerance) => match Within::uniform(tolerance) {
             Err(_) => Err(InputFault {
                 reason: InputReason::TooWide,
                 place,
             }),
-            Ok(likeness) => Ok((likeness, behind)),
+            Ok(likeness) => Ok((likeness, reader.place())),
         },
     }
 }
@@ -78,7 +84,7 @@ fn read_tolerance(input: &[u8]) -> Result<(Within, usize), InputFault>
 fn test_file(input: &[u8], place: usize) -> Result<SystemFile<'_>, InputFault>
     ensures { UnlessFault (system_fault input.now place) (IsFile input.now place) result }
 {
-    let file = SystemFile::test(input, place, SYSTEM_ROOM)?;
+    let file = SystemFile::test(input, place, system_room())?;
     Ok(file)
 }
 

@@ -11,7 +11,7 @@ mod program;
 
 pub use deciding::report;
 pub use fault::{InputFault, InputReason};
-pub use input::{Input, MOST_BYTES, SYSTEM_ROOM, read_input};
+pub use input::{Input, MOST_BYTES, ROOM_STATES, read_input, system_room};
 pub use lines::{
     LONGEST_LINE, Line, answer_line, fault_line, no_memory_line, standing_line, swept_line,
     verdict_line,

@@ -3,13 +3,14 @@ ghost use Rattle.std.specs.Prelude.{◌≡◌, ◌≤◌, [], IfOk, vec_len, vec
 ghost use Rattle.report.specs.Input.{system_room};
 ghost use Rattle.report.specs.Room.{most_output, most_read, most_strikes, table_room};
 
-use crate::input::{MOST_BYTES, SYSTEM_ROOM};
+use crate::input::{MOST_BYTES, ROOM_STATES, system_room};
 use crate::lines::LONGEST_LINE;
 use docket::{Grant, Refusal, Strike};
 use std::alloc::{AllocError, Global};
 
-/// How many entries the table has: one for each pair of 64 old and 64 new states.
-pub const TABLE_ROOM: usize = 4_096;
+/// How many entries the table has: one for each pair of states that there is room for.
+// Casts, since no `From` goes into a constant.
+pub const TABLE_ROOM: usize = ROOM_STATES as usize * ROOM_STATES as usize;
 
 /// How many strikes can be proposed at most: a record takes a byte or more.
 pub const MOST_STRIKES: usize = MOST_BYTES;
@@ -24,7 +25,7 @@ pub const MOST_OUTPUT: usize = (MOST_STRIKES + LINES_BEHIND) * LONGEST_LINE;
 pub const MOST_READ: usize = MOST_BYTES + 1;
 
 // What these sizes come to.
-const _: () = prove!(MOST_BYTES == 32_768 && SYSTEM_ROOM == 17_026 && TABLE_ROOM == 4_096);
+const _: () = prove!(MOST_BYTES == 32_768 && TABLE_ROOM == 4_096);
 
 const _: () = prove!(MOST_STRIKES == 32_768 && LONGEST_LINE == 34 && MOST_OUTPUT == 1_114_214);
 
@@ -62,7 +63,7 @@ pub struct Memory {
 fn words(heap: Global) -> Result<Vec<u16>, AllocError>
     ensures { IfOk result (λ words. vec_len words ≡ system_room) }
 {
-    vec![in heap; 0u16; SYSTEM_ROOM]
+    vec![in heap; 0u16; system_room()]
 }
 
 /// Memory for the table. What it holds at first does not matter.

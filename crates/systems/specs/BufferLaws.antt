@@ -3,7 +3,7 @@ use Rattle.std.specs.Prelude.{◌≡◌, ℕ, ◌+◌, ◌-◌, ◌<◌, ◌≤�
 use Rattle.std.proofs.Common.{arith}
 use Rattle.std.proofs.lemmas.Bool.{and_left, and_parts, and_right, cond_both, cond-false, cond-true, le-leb, le-ltb, leb-true, lt-leb, ne_eqb}
 use Rattle.systems.specs.Buffer.{buffer, stepped}
-use Rattle.systems.specs.Meaning.{Lawful}
+use Rattle.systems.specs.Meaning.{Lawful, count_limit}
 
 -- a step stays within the capacity
 stepped_bound : (capacity w a b : ℕ) → w ≤ capacity → stepped capacity w a b ≤ capacity
@@ -20,8 +20,8 @@ past_state : (capacity w x : ℕ) → capacity + 1 ≤ w → cond (nat_le w capa
 past_state capacity w x h = cond-false (nat_le w capacity) x 0 (lt-leb w capacity (omega arith))
 
 -- so many moves are few enough, at a state and elsewhere
-moves_bound : (capacity w x : ℕ) → x ≤ 65535 → cond (nat_le w capacity) x 0 ≤ 65535
-moves_bound capacity w x h = cond_both (nat_le w capacity) x 0 (λ v. v ≤ 65535) (λ _. h) (λ _. omega arith)
+moves_bound : (capacity w x : ℕ) → x ≤ count_limit → cond (nat_le w capacity) x 0 ≤ count_limit
+moves_bound capacity w x h = cond_both (nat_le w capacity) x 0 (λ v. v ≤ count_limit) (λ _. h) (λ _. omega arith)
 
 -- past the controller's moves there is no next state, at a state and elsewhere
 no_controller : (there : Bool) (p q a b x : ℕ) → cond there p 0 ≤ a → cond (there && (nat_lt a p && nat_lt b q)) x 0 ≡ 0

@@ -1,5 +1,6 @@
 -- A list of codes over a system, on one channel.
 use Rattle.std.specs.Prelude.{ℕ, cond, ◌&&◌, List, [], ◌∷◌, ◌++◌, length, take, pos, Ok, Err, Result, ◌==◌, int_le, nat_lt}
+use Rattle.systems.specs.Limits.{most_codes}
 use Rattle.systems.specs.Meaning.{Meaning, Reading, same_reading}
 use Rattle.systems.specs.declared.codes.CodeEntry.{CodeEntry}
 use Rattle.systems.specs.declared.codes.Codes.{Codes}
@@ -39,10 +40,10 @@ code_list m channel entries cut = record {
 abbrev pub code_refusal : CodeFault → ℕ
 code_refusal Full = 26
 
--- what adding one more entry answers: there are up to 8
+-- what adding one more entry answers
 abbrev pub add_answer : List CodeEntry → Result (Unit {0}) CodeFault
-add_answer entries = cond (nat_lt (length entries) 8) (Ok tt) (Err Full)
+add_answer entries = cond (nat_lt (length entries) most_codes) (Ok tt) (Err Full)
 
 -- the entries after that: the new one comes last, or nothing changes
 abbrev pub added : List CodeEntry → CodeEntry → List CodeEntry
-added entries entry = cond (nat_lt (length entries) 8) (entries ++ entry ∷ []) entries
+added entries entry = cond (nat_lt (length entries) most_codes) (entries ++ entry ∷ []) entries

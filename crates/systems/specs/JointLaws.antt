@@ -3,11 +3,11 @@ use Rattle.std.specs.Prelude.{ℕ, ◌-◌, ◌*◌, ◌/◌, ◌%◌, ◌<◌, 
 use Rattle.std.proofs.Common.{div-lt_iff_lt-mul, mod-lt, mul-pos, arith}
 use Rattle.std.proofs.lemmas.Bool.{and_left, and_right, cond_both, cond-false, cond-true, le-ltb, lt-ltb}
 use Rattle.systems.specs.Joint.{capped, joint}
-use Rattle.systems.specs.Meaning.{Meaning, Lawful}
+use Rattle.systems.specs.Meaning.{Meaning, Lawful, count_limit}
 
 -- a count stops in range, at a state and elsewhere
-count_bound : (there : Bool) (x : ℕ) → cond there (capped x) 0 ≤ 65535
-count_bound there x = cond_both there (capped x) 0 (λ v. v ≤ 65535) (λ _. omega arith) (λ _. omega arith)
+count_bound : (there : Bool) (x : ℕ) → cond there (capped x) 0 ≤ count_limit
+count_bound there x = cond_both there (capped x) 0 (λ v. v ≤ count_limit) (λ _. omega arith) (λ _. omega arith)
 
 -- at a state, a product of counts above 0 is above 0, also where it stops
 some_count : (s n x y : ℕ) → s < n → 1 ≤ x → 1 ≤ y → 1 ≤ cond (nat_lt s n) (capped (x * y)) 0

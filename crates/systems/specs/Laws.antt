@@ -2,7 +2,7 @@
 use Rattle.std.specs.Prelude.{◌≡◌, ℕ, ◌<◌, ◌≤◌, Bool, true, cond, ◌&&◌, List, nat_lt}
 use Rattle.std.proofs.Common.{arith}
 use Rattle.std.proofs.lemmas.Bool.{and_parts, and_left, and_right, cond_both, cond-false, cond-true, le-ltb, lt-ltb, ltb-true}
-use Rattle.systems.specs.Meaning.{Lawful}
+use Rattle.systems.specs.Meaning.{Lawful, count_limit}
 use Rattle.systems.specs.Layout.{LaidOut, stored, state_count, channel_count, controller_word, environment_word, next_word}
 
 -- an answer that is asked for is bounded, and 0 stands for any other
@@ -25,9 +25,9 @@ stored_lawful words ok =
       some_channel = ok.2;
       channels_bound = omega arith;
       some_controller_move = λ w h. omega (arith, at_state w n (controller_word words w) h, (ok.5 w h).0);
-      controller_moves_bound = λ w. capped (nat_lt w n) _ 65535 (λ t. omega (arith, (ok.5 w (ltb-true w n t)).1));
+      controller_moves_bound = λ w. capped (nat_lt w n) _ count_limit (λ t. omega (arith, (ok.5 w (ltb-true w n t)).1));
       some_environment_move = λ w h. omega (arith, at_state w n (environment_word words w) h, (ok.5 w h).2);
-      environment_moves_bound = λ w. capped (nat_lt w n) _ 65535 (λ t. omega (arith, (ok.5 w (ltb-true w n t)).3));
+      environment_moves_bound = λ w. capped (nat_lt w n) _ count_limit (λ t. omega (arith, (ok.5 w (ltb-true w n t)).3));
       next_bound = λ w a b.
           cond_both (nat_lt w n && (nat_lt a (p w) && nat_lt b (q w))) (next_word words w a b) 0 (λ v. v < n)
           (λ t.

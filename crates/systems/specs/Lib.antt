@@ -1,7 +1,10 @@
 pub mod Bounded
 pub mod Refused
 pub mod Meaning
+pub mod Rows
 pub mod Layout
+pub mod Limits
+pub mod Words
 pub mod Laws
 pub mod Buffer
 pub mod BufferLaws

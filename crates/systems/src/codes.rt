@@ -1,5 +1,6 @@
 //! What a list of codes holds.
 ghost use Rattle.std.specs.Prelude.{◌≤◌};
+ghost use Rattle.systems.specs.Limits.{most_codes};
 
 use crate::code_list::MOST_CODES;
 
@@ -18,5 +19,5 @@ pub(crate) struct Codes {
     pub(crate) entries: [CodeEntry; MOST_CODES],
     pub(crate) count: usize,
     pub(crate) cut: i16,
-    ghost ok: { count ≤ 8 },
+    ghost ok: { count ≤ most_codes },
 }

@@ -1,8 +1,12 @@
 //! The layout of a stored system in 16-bit words, and its check.
 ghost use Rattle.std.specs.Prelude.{◌≡◌, is_ok, Decides};
-ghost use Rattle.systems.specs.Layout.{layout, layout_refusal, LaidOut, row_place, row_words};
+ghost use Rattle.systems.specs.Layout.{layout, layout_refusal, LaidOut, row_place, row_range, words_taken};
+ghost use Rattle.systems.specs.Words.{with_header};
 
+use crate::offsets::row_words;
 use crate::row::Row;
+use crate::row_mut::set_word;
+use std::ops::Range;
 
 /// The most states that a stored system has.
 pub const MAX_STATES: u16 = 256;
@@ -13,8 +17,9 @@ pub const MAX_CHANNELS: u16 = 8;
 /// The most moves that each side has at a state of a stored system.
 pub const MAX_MOVES: u16 = 16;
 
-/// A reading is stored with this added.
-pub const READING_BIAS: i32 = 32_768;
+/// The most pairs of moves at a state of a stored system.
+// A cast, since no `From` goes into a constant.
+pub const MAX_MOVE_PAIRS: usize = MAX_MOVES as usize * MAX_MOVES as usize;
 
 /// Where the number of states stands.
 pub(crate) const STATES_AT: usize = 0;
@@ -23,14 +28,7 @@ pub(crate) const STATES_AT: usize = 0;
 pub(crate) const CHANNELS_AT: usize = 1;
 
 /// The words in front of the rows: these two.
-const HEADER_WORDS: usize = 2;
-
-/// The words of a row behind its readings: the numbers of moves, the controller's first.
-pub(crate) const MOVES_WORDS: usize = 2;
-
-/// The words of a row behind those: a next state for each pair of moves.
-// Casts, since no `From` goes into a constant.
-const NEXT_WORDS: usize = MAX_MOVES as usize * MAX_MOVES as usize;
+pub(crate) const HEADER_WORDS: usize = 2;
 
 /// What is wrong with a layout, and the number of that refusal.
 #[derive(Clone, Copy, Debug, PartialEq, Eq)]
@@ -57,18 +55,35 @@ impl LayoutFault {
     }
 }
 
-/// How many words the row of a state takes.
-pub fn row_words(channels: u16) -> usize
-    ensures { result ≡ row_words channels }
-{
-    usize::from(channels) + MOVES_WORDS + NEXT_WORDS
-}
-
 /// Where the row of a state begins.
-pub fn row_place(channels: u16, state: u16) -> usize
+pub(crate) fn row_place(channels: u16, state: u16) -> usize
     ensures { result ≡ row_place channels state }
 {
     HEADER_WORDS + usize::from(state) * row_words(channels)
+}
+
+/// From where the row of a state begins to where it ends, for so many channels.
+pub fn row_range(channels: u16, state: u16) -> Range<usize>
+    ensures { result ≡ row_range channels state }
+{
+    let start = row_place(channels, state);
+    start..start + row_words(channels)
+}
+
+/// How many words a system of so many states and channels takes.
+pub fn words_taken(states: u16, channels: u16) -> usize
+    ensures { result ≡ words_taken states channels }
+{
+    // as many as lie in front of the row of a state behind the last one
+    row_place(channels, states)
+}
+
+/// Writes the numbers of states and of channels in front; what the words do not reach is not written.
+pub fn write_header(words: &mut [u16], states: u16, channels: u16)
+    ensures { words.new ≡ with_header words.old states channels }
+{
+    set_word(words, STATES_AT, states);
+    set_word(words, CHANNELS_AT, channels);
 }
 
 /// How many words the layout at the front of `words` takes, or what is wrong with it.
@@ -85,7 +100,7 @@ pub fn check_layout(words: &[u16]) -> Result<usize, LayoutFault>
     if !(1..=MAX_CHANNELS).contains(channels) {
         return Err(LayoutFault::Channels);
     }
-    let taken = row_place(*channels, *states);
+    let taken = words_taken(*states, *channels);
     if words.len() < taken {
         return Err(LayoutFault::TooShort);
     }

@@ -8,7 +8,10 @@ mod joint;
 #[cfg(test)]
 mod kinds_tests;
 mod layout;
+mod offsets;
+mod reading;
 mod row;
+mod row_mut;
 mod stored;
 mod system;
 #[cfg(test)]
@@ -18,8 +21,9 @@ pub use buffer::Buffer;
 pub use code_list::{CodeFault, CodeList, MOST_CODES};
 pub use joint::Joint;
 pub use layout::{
-    LayoutFault, MAX_CHANNELS, MAX_MOVES, MAX_STATES, READING_BIAS, check_layout, row_place,
-    row_words,
+    LayoutFault, MAX_CHANNELS, MAX_MOVE_PAIRS, MAX_MOVES, MAX_STATES, check_layout, row_range,
+    words_taken, write_header,
 };
+pub use row_mut::RowMut;
 pub use stored::Stored;
 pub use system::System;

@@ -1,9 +1,11 @@
 //! The row of a state in the words of a stored system.
 ghost use Rattle.std.specs.Prelude.{◌≡◌, ◌<◌, ◌≤◌, Some, None, MatchResult};
 ghost use Rattle.systems.specs.Bounded.{between};
+ghost use Rattle.systems.specs.Limits.{max_moves};
 ghost use Rattle.systems.specs.Layout.{RowHeld, channel_count, controller_word, environment_word, move_fits, next_fits, next_states_fit, next_word, reading_word, row_fault, row_word, row_words};
 
-use crate::layout::{CHANNELS_AT, LayoutFault, MAX_MOVES, MOVES_WORDS, STATES_AT, row_place};
+use crate::layout::{CHANNELS_AT, LayoutFault, MAX_MOVES, STATES_AT, row_place};
+use crate::offsets::{controller_at, environment_at, next_at, reading_at};
 
 /// The row of a state, and the words that hold it.
 #[derive(Clone, Copy)]
@@ -15,7 +17,7 @@ pub(crate) struct Row<'a> {
 
 /// Whether a side can have so many moves.
 fn is_move_count(count: u16) -> bool
-    ensures { result ≡ between 1 16 count }
+    ensures { result ≡ between 1 max_moves count }
 {
     (1..=MAX_MOVES).contains(&count)
 }
@@ -26,14 +28,14 @@ impl Row<'_> {
         requires { offset < row_words (channel_count self.now.words.now) }
         ensures { result ≡ row_word self.now.words.now self.now.state offset }
     {
-        self.words[row_place(self.words[CHANNELS_AT], self.state) + offset]
+        self.words[row_place(self.channels(), self.state) + offset]
     }
 
-    /// Where the numbers of moves stand in the row: behind its readings.
-    fn moves_at(&self) -> usize
+    /// How many channels there are.
+    fn channels(&self) -> u16
         ensures { result ≡ channel_count self.now.words.now }
     {
-        usize::from(self.words[CHANNELS_AT])
+        self.words[CHANNELS_AT]
     }
 
     /// The word of a reading.
@@ -41,38 +43,37 @@ impl Row<'_> {
         requires { channel < channel_count self.now.words.now }
         ensures { result ≡ reading_word self.now.words.now self.now.state channel }
     {
-        self.word(usize::from(channel))
+        self.word(reading_at(u16::from(channel)))
     }
 
     /// How many moves the controller has.
     pub(crate) fn controller_moves(&self) -> u16
         ensures { result ≡ controller_word self.now.words.now self.now.state }
     {
-        self.word(self.moves_at())
+        self.word(controller_at(self.channels()))
     }
 
     /// How many moves the environment has.
     pub(crate) fn environment_moves(&self) -> u16
         ensures { result ≡ environment_word self.now.words.now self.now.state }
     {
-        self.word(self.moves_at() + 1)
+        self.word(environment_at(self.channels()))
     }
 
     /// The next state of a pair of moves.
     // That moves are below 16 is asked of each call: they are plain numbers, as in `System`.
     pub(crate) fn next(&self, controller: u16, environment: u16) -> u16
-        requires controller { controller < 16 }
-        requires environment { environment < 16 }
+        requires controller { controller < max_moves }
+        requires environment { environment < max_moves }
         ensures { result ≡ next_word self.now.words.now self.now.state controller environment }
     {
-        let pair = usize::from(controller) * usize::from(MAX_MOVES) + usize::from(environment);
-        self.word(self.moves_at() + MOVES_WORDS + pair)
+        self.word(next_at(self.channels(), controller, environment))
     }
 
     /// Whether the next state of a pair of moves is a state.
     fn next_fits(&self, controller: u16, environment: u16) -> bool
-        requires controller { controller < 16 }
-        requires environment { environment < 16 }
+        requires controller { controller < max_moves }
+        requires environment { environment < max_moves }
         ensures { result ≡ next_fits self.now.words.now self.now.state controller environment }
     {
         self.next(controller, environment) < self.words[STATES_AT]
@@ -80,8 +81,8 @@ impl Row<'_> {
 
     /// Whether every next state that is used with the controller's move is a state.
     fn move_fits(&self, controller: u16) -> bool
-        requires controller { controller < 16 }
-        requires environment { environment_word self.now.words.now self.now.state ≤ 16 }
+        requires controller { controller < max_moves }
+        requires environment { environment_word self.now.words.now self.now.state ≤ max_moves }
         ensures { result ≡ move_fits self.now.words.now self.now.state controller }
     {
         (0..self.environment_moves()).all(|environment| self.next_fits(controller, environment))
@@ -89,8 +90,8 @@ impl Row<'_> {
 
     /// Whether every next state that is used is a state.
     fn next_states_fit(&self) -> bool
-        requires controller { controller_word self.now.words.now self.now.state ≤ 16 }
-        requires environment { environment_word self.now.words.now self.now.state ≤ 16 }
+        requires controller { controller_word self.now.words.now self.now.state ≤ max_moves }
+        requires environment { environment_word self.now.words.now self.now.state ≤ max_moves }
         ensures { result ≡ next_states_fit self.now.words.now self.now.state }
     {
         (0..self.controller_moves()).all(|controller| self.move_fits(controller))

@@ -1,18 +1,19 @@
 //! A system that lies in words held for reading.
-ghost use Rattle.std.specs.Prelude.{◌≡◌, ◌<◌, ◌≤◌, MatchOption, IfSome};
-ghost use Rattle.systems.specs.Layout.{LaidOut, state_count, stored, stored_words};
+ghost use Rattle.std.specs.Prelude.{◌≡◌, ◌<◌, ◌≤◌, Ok, Err, MatchOption, MatchResult, IfOk, IfSome};
+ghost use Rattle.systems.specs.Layout.{LaidOut, layout, state_count, stored, stored_words, words_taken, channel_count};
 ghost use Rattle.systems.specs.Laws.{stored_lawful};
 
-use crate::layout::{CHANNELS_AT, READING_BIAS, STATES_AT, check_layout};
+use crate::layout::{CHANNELS_AT, HEADER_WORDS, LayoutFault, STATES_AT, check_layout};
+use crate::offsets::{COUNT_WORDS, NEXT_WORDS};
+use crate::reading::{ZERO_WORD, reading_of_word};
 use crate::row::Row;
 use crate::system::System;
 
 /// How many words the resting system takes.
-const RESTING_WORDS: usize = 261;
+const RESTING_WORDS: usize = HEADER_WORDS + RESTING_CHANNELS + COUNT_WORDS + NEXT_WORDS;
 
-/// The word that holds reading 0.
-// A cast, since no `From` goes into a constant.
-const ZERO_WORD: u16 = READING_BIAS as u16;
+/// How many channels it has.
+const RESTING_CHANNELS: usize = 1;
 
 /// The resting system: its only state shows 0 on its only channel, and the one move of either side leads back to it.
 // Written out, since the value of a constant calls nothing.
@@ -38,9 +39,10 @@ static RESTING: [u16; RESTING_WORDS] = [
 ];
 
 /// A stored system. Every one that exists has the layout.
+// The words are public, so that whoever has laid them out makes the system of them, and nobody checks them again.
 #[derive(Clone, Copy)]
 pub struct Stored<'a> {
-    words: &'a [u16],
+    pub words: &'a [u16],
     ghost ok: { LaidOut words.now },
 }
 
@@ -56,6 +58,18 @@ fn words_or_resting(words: &[u16]) -> &[u16]
 }
 
 impl<'a> Stored<'a> {
+    /// The system that the words hold, or what is wrong with their layout.
+    pub fn test(words: &'a [u16]) -> Result<Stored<'a>, LayoutFault>
+        ensures answer { MatchResult result
+            (λ _. layout words.now
+            ≡ Ok (words_taken (state_count words.now) (channel_count words.now)))
+            (λ fault. layout words.now ≡ Err fault) }
+        ensures words { IfOk result (λ stored. stored.words.now ≡ words.now) }
+    {
+        check_layout(words)?;
+        Ok(Stored { words })
+    }
+
     /// The system that the words hold, or the resting system where they have not the layout.
     pub fn new(words: &'a [u16]) -> Stored<'a>
         ensures { result.words.now ≡ stored_words words.now }
@@ -99,10 +113,7 @@ impl<'a> System for Stored<'a> {
 
     fn reading(&self, state: u16, channel: u8) -> i16 {
         match self.row(state) {
-            Some(row) if channel < self.channels() => {
-                // a cast of what is -32,768 to 32,767: a `TryFrom` would bring an error that never comes
-                (i32::from(row.reading(channel)) - READING_BIAS) as i16
-            }
+            Some(row) if channel < self.channels() => reading_of_word(row.reading(channel)),
             _ => 0,
         }
     }

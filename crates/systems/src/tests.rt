@@ -1,7 +1,8 @@
 //! Examples of the layout check and of stored systems.
 ghost use Rattle.std.specs.Prelude.{◌<◌};
 
-use crate::layout::{LayoutFault, READING_BIAS, check_layout};
+use crate::layout::{LayoutFault, check_layout};
+use crate::reading::word_of_reading;
 use crate::stored::Stored;
 use crate::system::System;
 
@@ -10,8 +11,7 @@ fn small() -> [u16; 262] {
     let mut words = [0; 262];
     words[0] = 1;
     words[1] = 1;
-    // a cast of what is 32,768
-    words[2] = READING_BIAS as u16 + 7;
+    words[2] = word_of_reading(7);
     words[3] = 1;
     words[4] = 1;
     words

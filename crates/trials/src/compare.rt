@@ -1,7 +1,7 @@
 //! One trial: the docket's calls beside the second solution.
 use crate::draw::{Generator, Shape};
 use crate::solve::solve;
-use arena::{Cause, Exchange, STANDING, number_of_pairs, place_of};
+use arena::{Board, BoardMut, Cause, Exchange, number_of_pairs};
 use docket::{Docket, Settlement, Strike, check_certificate};
 use likeness::Likeness;
 use ranking::rank;
@@ -37,7 +37,7 @@ struct Case<'a, S, T, L> {
 }
 
 impl<'a, S: System, T: System, L: Likeness> Case<'a, S, T, L> {
-    /// The exchange, solved the second way, with a table of zeros.
+    /// The exchange, solved the second way, with memory for its table.
     fn new(heap: Global, exchange: Exchange<'a, S, T, L>) -> Result<Case<'a, S, T, L>, AllocError> {
         let Exchange { old, new, likeness } = exchange;
         let simulation = solve(heap, old, new, likeness)?;
@@ -72,7 +72,11 @@ impl<'a, S: System, T: System, L: Likeness> Case<'a, S, T, L> {
 
     /// Whether the pair stands in the table.
     fn stands(&self, pair: (u16, u16)) -> bool {
-        self.table.get(place_of(self.columns(), pair)) == Some(&STANDING)
+        let board = Board {
+            arena: &self.exchange,
+            table: &self.table,
+        };
+        board.stands(pair)
     }
 
     /// Whether just the pairs of the simulation stand in the table.
@@ -138,10 +142,13 @@ impl<'a, S: System, T: System, L: Likeness> Case<'a, S, T, L> {
             generator.below(self.rows()),
             generator.below(self.columns()),
         );
-        let place = place_of(self.columns(), pair);
-        let drawn = u32::from(generator.below(6));
-        if let Some(entry) = self.table.get_mut(place) {
-            *entry = drawn;
+        let mut board = BoardMut {
+            arena: &self.exchange,
+            table: &mut self.table,
+        };
+        match generator.below(6) {
+            0 => board.stand(pair),
+            number => board.strike(pair, u32::from(number)),
         }
     }
 }

@@ -1,6 +1,6 @@
 //! Numbers and systems drawn by a fixed generator.
 use std::alloc::{AllocError, Global};
-use systems::{MAX_MOVES, READING_BIAS, row_place};
+use systems::{RowMut, row_range, words_taken, write_header};
 
 /// What a drawn system looks like.
 #[derive(Clone, Copy)]
@@ -13,13 +13,23 @@ pub(crate) struct Shape {
     pub(crate) environment: u16,
     /// So many different readings, from the first on.
     pub(crate) readings: u16,
-    pub(crate) first: u16,
+    pub(crate) first: i16,
 }
 
 /// A generator of numbers that look random: the same numbers in every run.
 #[derive(Drop)]
 pub(crate) struct Generator {
     last: u32,
+}
+
+/// The part of the words that holds the row of a state, where they reach so far.
+fn row_words(words: &mut [u16], channels: u16, state: u16) -> Option<&mut [u16]> {
+    let range = row_range(channels, state);
+    if range.end <= words.len() {
+        Some(&mut words[range])
+    } else {
+        None
+    }
 }
 
 impl Generator {
@@ -46,39 +56,36 @@ impl Generator {
         ((self.last >> 16) % u32::from(bound)) as u16
     }
 
-    /// Draws the next states of a row. The place of a pair of moves that the row has not holds 0.
+    /// Draws what a channel shows.
+    fn draw_reading(&mut self, shape: Shape) -> i16 {
+        let above = i16::try_from(self.below(shape.readings)).unwrap_or(i16::MAX);
+        shape.first.saturating_add(above)
+    }
+
+    /// Draws the next states of a row with so many moves.
     fn draw_next_states(
         &mut self,
-        words: &mut Vec<u16>,
+        row: &mut RowMut,
         states: u16,
         controller: u16,
         environment: u16,
-    ) -> Result<(), AllocError> {
-        for a in 0..MAX_MOVES {
-            for b in 0..MAX_MOVES {
-                let has_moves = a < controller && b < environment;
-                words.push(if has_moves { self.below(states) } else { 0 })?;
+    ) {
+        for a in 0..controller {
+            for b in 0..environment {
+                row.set_next(a, b, self.below(states));
             }
         }
-        Ok(())
     }
 
     /// Draws the row of a state.
-    fn draw_row(&mut self, words: &mut Vec<u16>, shape: Shape) -> Result<(), AllocError> {
-        for _ in 0..shape.channels {
-            let reading = self.below(shape.readings);
-            words.push(
-                // a cast of what is 32,768: a `TryFrom` would bring an error that never comes
-                (READING_BIAS as u16)
-                    .wrapping_add(shape.first)
-                    .wrapping_add(reading),
-            )?;
+    fn draw_row(&mut self, row: &mut RowMut, shape: Shape) {
+        for channel in 0..shape.channels {
+            row.set_reading(channel, self.draw_reading(shape));
         }
         let controller = self.below(shape.controller).saturating_add(1);
         let environment = self.below(shape.environment).saturating_add(1);
-        words.push(controller)?;
-        words.push(environment)?;
-        self.draw_next_states(words, shape.states, controller, environment)
+        row.set_moves(controller, environment);
+        self.draw_next_states(row, shape.states, controller, environment);
     }
 
     /// The words of a stored system of the shape, drawn.
@@ -87,9 +94,12 @@ impl Generator {
         heap: Global,
         shape: Shape,
     ) -> Result<Vec<u16>, AllocError> {
-        let mut words = vec![in heap; shape.states, shape.channels]?;
-        for _ in 0..shape.states {
-            self.draw_row(&mut words, shape)?;
+        let mut words = vec![in heap; 0u16; words_taken(shape.states, shape.channels)]?;
+        write_header(&mut words, shape.states, shape.channels);
+        for state in 0..shape.states {
+            if let Some(row) = row_words(&mut words, shape.channels, state) {
+                self.draw_row(&mut RowMut::new(row, shape.channels), shape);
+            }
         }
         Ok(words)
     }
@@ -105,11 +115,8 @@ impl Generator {
         let state = self.below(shape.states);
         let next = self.below(shape.states);
         if self.below(2) == 0 {
-            let moves = row_place(shape.channels, state).saturating_add(usize::from(
-                shape.channels,
-            ));
-            if let Some(word) = words.get_mut(moves.saturating_add(2)) {
-                *word = next;
+            if let Some(row) = row_words(&mut words, shape.channels, state) {
+                RowMut::of(row, shape.channels).set_next(0, 0, next);
             }
         }
         Ok(words)

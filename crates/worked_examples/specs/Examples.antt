@@ -10,6 +10,7 @@ use Rattle.likeness.specs.Within.{within}
 use Rattle.arena.specs.Arena.{Arena}
 use Rattle.arena.specs.Exchange.{exchange}
 use Rattle.arena.specs.Table.{number_standing, pairs, start_stands}
+use Rattle.arena.specs.Written.{all_standing}
 use Rattle.docket.specs.Certificate.{certificate_says}
 use Rattle.docket.specs.Decide.{decision, full_budget}
 use Rattle.docket.specs.Position.{Position, closed, position}
@@ -30,7 +31,7 @@ buffers old new = exchange (buffer old) (buffer new) (λ _. exact)
 
 -- a closed docket and a table for six pairs
 abbrev pub begun : Position
-begun = position closed (replicate 6 0)
+begun = position closed (all_standing 6)
 
 -- an opening and four full sweeps
 abbrev pub four_sweeps : List Call
@@ -49,8 +50,8 @@ pub record WorkedExamples : Type 0 where
   pub six_pairs : pairs (buffers 1 2) ≡ 6
   pub two_stand : number_standing (buffers 1 2) (decision (buffers 1 2) begun []).position.table ≡ 2
   pub larger_replaces : start_stands (buffers 1 2) (decision (buffers 1 2) begun []).position.table ≡ true
-  pub ranks : rank_does (buffers 2 1) (replicate 6 0) ≡ 3 ∷ 1 ∷ 1 ∷ 2 ∷ 1 ∷ 1 ∷ []
-  pub highest_rank : rank_says (buffers 2 1) (replicate 6 0) ≡ Ok 3
+  pub ranks : rank_does (buffers 2 1) (all_standing 6) ≡ 3 ∷ 1 ∷ 1 ∷ 2 ∷ 1 ∷ 1 ∷ []
+  pub highest_rank : rank_says (buffers 2 1) (all_standing 6) ≡ Ok 3
   pub sweeps : answers (buffers 2 1) begun four_sweeps ≡ Ok (Opened 6) ∷ Ok (Swept 4) ∷ Ok (Swept 1) ∷ Ok (Swept 1) ∷ Ok (Swept 0) ∷ []
   pub swept_table : (after (buffers 2 1) begun four_sweeps).table ≡ 6 ∷ 1 ∷ 2 ∷ 5 ∷ 3 ∷ 4 ∷ []
   pub ranks_accepted : certificate_says (buffers 2 1) (3 ∷ 1 ∷ 1 ∷ 2 ∷ 1 ∷ 1 ∷ []) ≡ Ok (record { standing = 0; replaces = false })

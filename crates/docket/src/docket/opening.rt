@@ -1,28 +1,20 @@
 //! Opening a docket.
-ghost use Rattle.std.specs.Prelude.{◌≡◌, ◌≤◌, length};
+ghost use Rattle.std.specs.Prelude.{◌≡◌, ◌≤◌};
+ghost use Rattle.systems.specs.Limits.{max_states};
 ghost use Rattle.arena.specs.Table.{pairs};
-ghost use Rattle.docket.specs.Position.{cleared, opened, position};
+ghost use Rattle.docket.specs.Position.{opened, position};
 ghost use Rattle.docket.specs.Strikes.{open_does, open_says};
 
 use super::{Docket, Ledger};
 use crate::fit::check_opening;
 use crate::refusal::Refusal;
-use arena::{Arena, STANDING, number_of_pairs};
-
-/// Sets the first entries to standing.
-fn clear(table: &mut [u32], entries: usize)
-    requires { entries ≤ length table.old }
-    ensures { table.new ≡ cleared entries table.old }
-{
-    table[..entries].fill(STANDING);
-}
+use arena::{Arena, BoardMut};
 
 impl Docket {
-    /// Opens the docket for systems and a table that serve. Answers how many pairs there are.
+    /// Opens the docket for systems that serve. Answers how many pairs there are.
     pub(super) fn open_fitting<A: Arena>(&mut self, arena: &A, table: &mut [u32]) -> u32
-        requires old { (A.Arena.view arena.now).old_states ≤ 256 }
-        requires new { (A.Arena.view arena.now).new_states ≤ 256 }
-        requires space { pairs (A.Arena.view arena.now) ≤ length table.old }
+        requires old { (A.Arena.view arena.now).old_states ≤ max_states }
+        requires new { (A.Arena.view arena.now).new_states ≤ max_states }
         ensures number { result ≡ pairs (A.Arena.view arena.now) }
         ensures after { position self.new table.new ≡ opened (A.Arena.view arena.now) (position self.old table.old) }
     {
@@ -31,7 +23,7 @@ impl Docket {
             columns: arena.new_states(),
             count: 0,
         };
-        clear(table, number_of_pairs(arena));
+        BoardMut { arena, table }.clear();
         self.ledger = Some(ledger);
         ledger.pairs()
     }

@@ -1,8 +1,9 @@
 //! Making calls in a row.
-ghost use Rattle.std.specs.Prelude.{◌≡◌, ◌+◌, ◌≤◌, true, ◌++◌, length, is_ok, vec_len, vec_capacity, MatchResult, OnErr};
+ghost use Rattle.std.specs.Prelude.{◌≡◌, ◌+◌, ◌≤◌, true, ◌++◌, length, None, is_ok, vec_len, vec_capacity, MatchResult, OnErr};
 ghost use Rattle.docket.specs.Decide.{proposals};
 ghost use Rattle.docket.specs.Law.{CertificateLaw, RunLaw};
 ghost use Rattle.docket.specs.Position.{position};
+ghost use Rattle.docket.specs.Refusals.{use_refusal};
 ghost use Rattle.docket.specs.Run.{after, answers as answers_of, does, says};
 
 use super::Docket;
@@ -51,8 +52,27 @@ impl Docket {
         }
     }
 
-    /// Makes the strikes that are proposed, and appends their answers where there is room for them.
-    // By itself, and no list of calls for `perform_all`, since a list takes memory.
+    /// Makes one strike that is proposed to a docket whose use is not refused: the moves at the states are not counted again.
+    fn propose_one<A: Arena>(
+        &mut self,
+        arena: &A,
+        table: &mut [u32],
+        strike: Strike,
+    ) -> Result<Grant, Refusal>
+        requires { use_refusal (A.Arena.view arena.now) (position self.old table.old) ≡ None }
+        ensures answer { result
+            ≡ says (A.Arena.view arena.now) (position self.old table.old) (Call.Strike strike) }
+        ensures after { position self.new table.new
+            ≡ does (A.Arena.view arena.now) (position self.old table.old) (Call.Strike strike) }
+    {
+        let Some(ledger) = &mut self.ledger else {
+            unreachable()
+        };
+        ledger.strike(arena, table, strike).map(Grant::Struck)
+    }
+
+    /// Makes the strikes that are proposed to a docket whose use is not refused, and appends their answers where there is room for them.
+    // By itself, and no list of calls for `perform_all`, since a list takes memory, and the use of the docket is tested only once.
     pub(super) fn propose<A: Arena>(
         &mut self,
         arena: &A,
@@ -60,13 +80,14 @@ impl Docket {
         strikes: &[Strike],
         answers: &mut Vec<Result<Grant, Refusal>>,
     )
-        requires { vec_len answers.old + length strikes.now ≤ vec_capacity answers.old }
+        requires used { use_refusal (A.Arena.view arena.now) (position self.old table.old) ≡ None }
+        requires room { vec_len answers.old + length strikes.now ≤ vec_capacity answers.old }
         ensures answered { answers.new.items ≡ answers.old.items ++ answers_of (A.Arena.view arena.now) (position self.old table.old) (proposals strikes.now) }
         ensures after { position self.new table.new ≡ after (A.Arena.view arena.now) (position self.old table.old) (proposals strikes.now) }
         ensures capacity { vec_capacity answers.new ≡ vec_capacity answers.old }
     {
         for strike in strikes {
-            let answer = self.perform(arena, table, Call::Strike(*strike));
+            let answer = self.propose_one(arena, table, *strike);
             answers.push_reserved(answer);
         }
     }

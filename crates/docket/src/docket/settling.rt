@@ -6,14 +6,13 @@ ghost use Rattle.docket.specs.Settle.{first_loose, first_loose_in, loose_strike,
 use super::Docket;
 use crate::refusal::Refusal;
 use crate::strike::{Settlement, Strike};
-use crate::table::number_standing;
-use arena::{Arena, Board, STANDING};
+use arena::{Arena, Board};
 
 /// The strike that the pair can get, if it is loose.
 fn loose_strike<A: Arena>(board: &Board<'_, A>, pair: (u16, u16)) -> Option<Strike>
     ensures { result ≡ loose_strike (A.Arena.view board.now.arena.now) board.now.table.now pair.0 pair.1 }
 {
-    if board.entry(pair) != STANDING {
+    if !board.stands(pair) {
         return None;
     }
     board.cause(pair).map(|cause| Strike { pair, cause })
@@ -43,7 +42,7 @@ impl Docket {
         ledger.check_use(&board)?;
         Ok(match first_loose(&board) {
             Some(strike) => Settlement::Loose(strike),
-            None => Settlement::Settled(number_standing(&board)),
+            None => Settlement::Settled(board.number_standing()),
         })
     }
 }

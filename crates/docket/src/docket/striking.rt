@@ -1,10 +1,11 @@
 //! Striking a pair.
-ghost use Rattle.std.specs.Prelude.{◌≡◌, ◌+◌, ◌*◌, ◌<◌, ◌≤◌, length, None, OnOk, nat_le, slice_set};
+ghost use Rattle.std.specs.Prelude.{◌≡◌, ◌+◌, ◌*◌, ◌<◌, None, OnOk, nat_le};
 ghost use Rattle.systems.specs.Refused.{unless};
 ghost use Rattle.arena.specs.Pairs.{refutes};
 ghost use Rattle.arena.specs.Table.{pairs, struck};
+ghost use Rattle.arena.specs.Written.{with_struck};
 ghost use Rattle.docket.specs.Position.{one_more, position};
-ghost use Rattle.docket.specs.Refusals.{cause_refusal, pair_refusal};
+ghost use Rattle.docket.specs.Refusals.{cause_refusal, pair_refusal, use_refusal};
 ghost use Rattle.docket.specs.Seen.{ledger_view};
 ghost use Rattle.docket.specs.Use.{InUse};
 ghost use Rattle.docket.specs.Strikes.{strike_does, strike_says};
@@ -12,11 +13,11 @@ ghost use Rattle.docket.specs.Strikes.{strike_does, strike_says};
 use super::{Docket, Ledger};
 use crate::refusal::Refusal;
 use crate::strike::Strike;
-use arena::{Arena, Board, Cause, STANDING, place_of};
+use arena::{Arena, Board, BoardMut, Cause};
 
 /// Whether the move refutes the pair.
 fn does_refute<A: Arena>(board: &Board<'_, A>, pair: (u16, u16), controller: u16) -> bool
-    requires { controller < 65535 }
+    requires { controller < u16.MAX }
     ensures { result ≡ refutes (A.Arena.view board.now.arena.now) (struck (A.Arena.view board.now.arena.now) board.now.table.now None) pair.0 pair.1 controller }
 {
     board
@@ -58,8 +59,6 @@ impl Ledger {
     fn check_strike<A: Arena>(&self, board: &Board<'_, A>, strike: Strike) -> Result<(), Refusal>
         requires used { InUse (A.Arena.view board.now.arena.now) (position (ledger_view self.now) board.now.table.now) }
         ensures answer { result ≡ unless (pair_refusal (A.Arena.view board.now.arena.now) (position (ledger_view self.now) board.now.table.now) strike.pair.0 strike.pair.1 strike.cause) tt }
-        ensures row { OnOk result (strike.pair.0 < (A.Arena.view board.now.arena.now).old_states) }
-        ensures column { OnOk result (strike.pair.1 < (A.Arena.view board.now.arena.now).new_states) }
         ensures room { OnOk result (self.now.count < pairs (A.Arena.view board.now.arena.now)) }
     {
         let arena = board.arena;
@@ -67,7 +66,7 @@ impl Ledger {
         if !(old_state < arena.old_states() && new_state < arena.new_states()) {
             return Err(Refusal::NoSuchState);
         }
-        if board.entry(strike.pair) != STANDING {
+        if !board.stands(strike.pair) {
             return Err(Refusal::AlreadyStruck);
         }
         check_cause(board, strike)?;
@@ -77,25 +76,42 @@ impl Ledger {
         Ok(())
     }
 
-    /// Counts one more strike, and writes its number as the pair's entry.
-    // That the pair is in range is asked here and elsewhere: pairs are plain tuples, by a rule of this project.
-    pub(super) fn mark(&mut self, table: &mut [u32], pair: (u16, u16)) -> u32
-        requires row { pair.0 < self.old.rows }
-        requires column { pair.1 < self.old.columns }
-        requires space { self.old.rows * self.old.columns ≤ length table.old }
-        requires room { self.old.count < self.old.rows * self.old.columns }
+    /// Counts one more strike, and strikes the pair as that number.
+    pub(super) fn mark<A: Arena>(&mut self, arena: &A, table: &mut [u32], pair: (u16, u16)) -> u32
+        requires { self.old.count < self.old.rows * self.old.columns }
         ensures number { result ≡ self.old.count + 1 }
         ensures docket { ledger_view self.new ≡ one_more (ledger_view self.old) }
-        ensures written { table.new ≡ slice_set table.old (pair.0 * self.old.columns + pair.1) (self.old.count + 1) }
+        ensures written { table.new
+            ≡ with_struck (A.Arena.view arena.now) table.old pair.0 pair.1 (self.old.count + 1) }
     {
         self.count += 1;
-        table[place_of(self.columns, pair)] = self.count;
+        BoardMut { arena, table }.strike(pair, self.count);
         self.count
+    }
+
+    /// Strikes the pair for the cause, where the docket's use is not refused.
+    pub(super) fn strike<A: Arena>(
+        &mut self,
+        arena: &A,
+        table: &mut [u32],
+        strike: Strike,
+    ) -> Result<u32, Refusal>
+        requires { use_refusal (A.Arena.view arena.now) (position (ledger_view self.old) table.old)
+            ≡ None }
+        ensures answer { result
+            ≡ strike_says (A.Arena.view arena.now)
+            (position (ledger_view self.old) table.old) strike }
+        ensures after { position (ledger_view self.new) table.new
+            ≡ strike_does (A.Arena.view arena.now)
+            (position (ledger_view self.old) table.old) strike }
+    {
+        self.check_strike(&Board { arena, table }, strike)?;
+        Ok(self.mark(arena, table, strike.pair))
     }
 }
 
 impl Docket {
-    /// Strikes the pair for the cause. The strike's number is what the docket then counts; it becomes the pair's entry, and is the answer.
+    /// Strikes the pair for the cause. The strike's number is what the docket then counts; the pair is struck as that number, which is the answer.
     ///
     /// A refused call changes nothing, and no other entry is ever touched.
     pub fn strike<A: Arena>(
@@ -108,9 +124,7 @@ impl Docket {
         ensures after { position self.new table.new ≡ strike_does (A.Arena.view arena.now) (position self.old table.old) strike }
     {
         let ledger = self.ledger.as_mut().ok_or(Refusal::Closed)?;
-        let board = Board { arena, table };
-        ledger.check_use(&board)?;
-        ledger.check_strike(&board, strike)?;
-        Ok(ledger.mark(table, strike.pair))
+        ledger.check_use(&Board { arena, table })?;
+        ledger.strike(arena, table, strike)
     }
 }

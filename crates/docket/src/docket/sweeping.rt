@@ -21,15 +21,13 @@ impl Ledger {
         budget: u32,
         made: u32,
     ) -> u32
-        requires row { pair.0 < (A.Arena.view arena.now).old_states }
-        requires column { pair.1 < (A.Arena.view arena.now).new_states }
-        requires used { InUse (A.Arena.view arena.now) (position (ledger_view self.old) table.old) }
+        requires { InUse (A.Arena.view arena.now) (position (ledger_view self.old) table.old) }
         ensures after { sweeping (ledger_view self.new) table.new result ≡ sweep_pair (A.Arena.view arena.now) budget pair.0 pair.1 (sweeping (ledger_view self.old) table.old made) }
         ensures rows { self.new.rows ≡ self.old.rows }
         ensures columns { self.new.columns ≡ self.old.columns }
     {
         if made < budget && !self.is_full() && (Board { arena, table }).is_loose(pair) {
-            self.mark(table, pair);
+            self.mark(arena, table, pair);
             made + 1
         } else {
             made

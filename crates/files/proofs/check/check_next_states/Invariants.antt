@@ -1,5 +1,5 @@
 use Rattle.std.proofs.Common.{◌≡◌, None}
-use Rattle.files.specs.Sequence.{skip}
+use Rattle.codec.specs.Sequence.{skip}
 use Rattle.files.specs.SystemFile.{next_fault}
 use Rattle.files.proofs.check.check_next_states.Given as goal
 

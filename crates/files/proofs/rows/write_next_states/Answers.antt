@@ -1,34 +1,26 @@
-use Rattle.std.proofs.Common.{◌≡◌, ◌+◌, true, false, refl, sym, ◌∙◌, arith}
-use Rattle.std.proofs.lemmas.Grind.{common_steps}
-use Rattle.files.specs.Sequence.{skip, Cursor}
-use Rattle.files.specs.Words.{is_used, next_cell}
-use Rattle.files.proofs.Grid.{used_before, used_value, used_behind, unused_value, unused_behind}
+use Rattle.std.proofs.Common.{◌≡◌, ℕ, ◌+◌, ◌*◌, add-mul, add-one, one-mul, ap, ◌∙◌, arith}
+use Rattle.systems.specs.Words.{rewritten, with_next_of, with_next_states}
+use Rattle.codec.specs.Sequence.{nth}
+use Rattle.codec.proofs.Skips.{nth-skip, skip-skip}
 use Rattle.files.proofs.rows.write_next_states.Goals as goal
-use Rattle.files.proofs.rows.write_next_states.Goals.{then-is_used, else-is_used}
 
-pub loop-i-preserved : goal.loop-i-preserved
-loop-i-preserved c =
+-- one controller move more
+one_move : (a q : ℕ) → (a + 1) * q ≡ a * q + q
+one_move a q = grind (arith, add-mul, one-mul)
+
+pub loop-controller_move-preserved : goal.loop-controller_move-preserved
+loop-controller_move-preserved c =
     let bytes = c.args.reader.now.bytes in
     let start = c.args.reader.now.place in
-    let p = c.args.controller in
+    let row = c.args.row.now in
     let q = c.args.environment in
-    let i = c.loop-i.i in
-    let few = c.requires.few_environment in
-    let next : Cursor = record { bytes = bytes; place = skip bytes (used_before p q (i + 1)) start } in
-    let step : (c.if-is_used.word ≡ next_cell bytes p q start i) × (c.if-is_used.reader ≡ next) =
-    elim c.if-is_used.branch [
-      | then-is_used w ↦
-          let used : is_used p q i ≡ true = sym c.is_used.ensures ∙ w.if-is_used.true in (
-            rw (w.word-is, w.number_or_zero.ensures.value, c.loop-i.invariant.reads) (used_value bytes start p q i used),
-            rw (w.reader-is, w.number_or_zero.ensures.place, c.loop-i.invariant.reads, used_behind bytes start p q i few used) refl,
-          )
-      | else-is_used w ↦
-          let unused : is_used p q i ≡ false = sym c.is_used.ensures ∙ w.if-is_used.false in (
-            rw w.word-is (unused_value bytes start p q i unused),
-            rw (w.reader-is, c.loop-i.invariant.reads, unused_behind bytes start p q i few unused) refl,
-          )
-    ] in
+    let a = c.loop-controller_move.controller_move in
+    let next : ℕ → ℕ → ℕ = λ i b. nth bytes (i * q + b) start in
+    let all : c.loop-environment_move.environment_move ≡ q = omega (arith, c.loop-environment_move-test.false, c.loop-environment_move.auto.environment_move-end) in
+    let begun = c.loop-controller_move.invariant in
+    let ended = rw (all, begun.reads, begun.written) at c.loop-environment_move.invariant in
     record {
-      reads = step.1;
-      written = let word = step.0 in grind (arith, common_steps, c.loop-i.invariant.written);
+      reads = rw (one_move a q, skip-skip bytes (a * q) q start) ended.reads;
+      written = rw add-one
+          (ended.written ∙ ap (λ (f : ℕ → ℕ). rewritten row (with_next_of row.channels (with_next_states row.channels row.words.now a q next) a q f)) (nth-skip bytes (a * q) start));
     }

@@ -1,7 +1,7 @@
 use Rattle.std.proofs.Common.{◌≡◌, rules, sym, ap, ◌∙◌}
 use Rattle.systems.specs.Meaning.{Meaning}
 use Rattle.systems.specs.Refused.{if_granted}
-use Rattle.hosting.specs.Answers.{ranks_of}
+use Rattle.hosting.specs.Answers.{ranks_of, words_refusal}
 use Rattle.layered.specs.Codes.{coded, coded_ranks, meant}
 use Rattle.layered.specs.Layers.{rank_says, rank_does}
 use Rattle.layered.proofs.coded.layered_rank_coded.Goals as goal
@@ -15,8 +15,8 @@ returns-in-Ok-clause-answer c =
     let is' = coded c.args.new_words.now c.args.codes.now c.args.channel c.args.cut in
     let old : meant c.in-Ok.sides.old ≡ is = search (rules, c.in-Ok.ensures.old) in
     let new : was ≡ is' = search (rules, c.in-Ok.ensures.new) in
-    c.of.ensures
-    ∙ ap ranks_of (c.rank.ensures.answer ∙ ap (λ m. rank_says tolerances m was table) old ∙ ap (λ m. rank_says tolerances is m table) new)
+    c.of_words.ensures
+    ∙ ap (ranks_of words_refusal) (c.rank.ensures.answer ∙ ap (λ m. rank_says tolerances m was table) old ∙ ap (λ m. rank_says tolerances is m table) new)
     ∙ sym (ap (λ fault. coded_ranks fault (rank_says tolerances is is' table)) c.in-Ok.ensures.fault)
 
 pub returns-in-Ok-clause-table : goal.returns-in-Ok-clause-table

@@ -1,7 +1,7 @@
 use Rattle.std.proofs.Common.{◌≡◌, ◌++◌, length, take, drop, sym, subst, ◌∙◌}
 use Rattle.std.proofs.Math.Seq.{take-append_seam}
 use Rattle.files.specs.SystemFile.{described}
-use Rattle.files.specs.Words.{Holds}
+use Rattle.systems.specs.Layout.{Holds}
 use Rattle.report.proofs.deciding.lay_out.Goals as goal
 
 pub returns-clause-held : goal.returns-clause-held

@@ -28,6 +28,6 @@ pub returns : goal.returns
 returns c =
     let words = c.args.words.now in
     let rows : first_below (state_count words) (row_fault words) ≡ None = search rules in
-    let answer : Ok c.row_place-taken.result ≡ layout words =
+    let answer : Ok c.words_taken-taken.result ≡ layout words =
     search (rules, layout_by_rows words, ap (rows_answer words) rows) in
     record { answer = answer; decides = layout_decides words _ answer }

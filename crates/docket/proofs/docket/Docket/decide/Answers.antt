@@ -1,10 +1,18 @@
-use Rattle.std.proofs.Common.{ap, ◌∙◌}
+use Rattle.std.proofs.Common.{◌≡◌, None, sym, subst, ap, ◌∙◌}
 use Rattle.docket.proofs.Decided.{proposals_under_way, told}
+use Rattle.docket.proofs.Good.{good_opened}
 use Rattle.docket.proofs.Refused.{no_refusal}
 use Rattle.docket.specs.Decide.{proposals}
 use Rattle.docket.specs.Position.{position}
+use Rattle.docket.specs.Refusals.{use_refusal}
 use Rattle.docket.specs.Run.{after}
 use Rattle.docket.proofs.docket.Docket.decide.Goals as goal
+
+pub propose-requires-clause-used : goal.propose-requires-clause-used
+propose-requires-clause-used g c =
+    let A = g.A.Arena.view c.args.arena.now in
+    let x = position c.args.self.now c.args.table.now in
+    subst (λ y. use_refusal A y ≡ None) (sym c.open_fitting.ensures.after) (good_opened A x (no_refusal _ _ _ c.in_ok-check_opening.ensures.answer)).in_use
 
 pub conclude-requires : goal.conclude-requires
 conclude-requires g c =

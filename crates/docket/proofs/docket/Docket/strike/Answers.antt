@@ -8,14 +8,5 @@ returns-in_err-check_use-clause-answer g c = let named = refusal_of _ _ _ c.in_e
 pub returns-in_err-check_use-clause-after : goal.returns-in_err-check_use-clause-after
 returns-in_err-check_use-clause-after g c = let named = refusal_of _ _ _ c.in_err-check_use.ensures.answer in search (rules, named)
 
-pub returns-in_err-check_strike-clause-answer : goal.returns-in_err-check_strike-clause-answer
-returns-in_err-check_strike-clause-answer g c =
-    let used = no_refusal _ _ _ c.in_ok-check_use.ensures.answer in
-    let named = refusal_of _ _ _ c.in_err-check_strike.ensures.answer in
-    search (rules, used, named)
-
-pub returns-in_err-check_strike-clause-after : goal.returns-in_err-check_strike-clause-after
-returns-in_err-check_strike-clause-after g c =
-    let used = no_refusal _ _ _ c.in_ok-check_use.ensures.answer in
-    let named = refusal_of _ _ _ c.in_err-check_strike.ensures.answer in
-    search (rules, used, named)
+pub strike-requires : goal.strike-requires
+strike-requires g c = no_refusal _ _ _ c.in_ok-check_use.ensures.answer

@@ -1,4 +1,4 @@
-use Rattle.std.proofs.Common.{ap, ◌∙◌, arith, w16, SFits, rules}
+use Rattle.std.proofs.Common.{ap, ◌∙◌, w16, SFits, rules}
 use Rattle.std.proofs.lemmas.Int.{to_z-of_z}
 use Rattle.codec.specs.Filing.{filed}
 use Rattle.files.proofs.Puts.{put_listed}
@@ -9,7 +9,4 @@ loop-channel-preserved g c =
     let m = g.S.System.meaning c.args.self.now.system.now in
     let fits : SFits w16 c.reading.result = search rules in
     let value = c.file_reading.ensures.answer ∙ ap filed (to_z-of_z w16 c.reading.result fits ∙ c.reading.ensures) in
-    record {
-      put = put_listed c.loop-channel.channel (λ k. filed (m.reading c.args.state k)) c.loop-channel.invariant.put c.put.ensures.put value;
-      bound = omega (arith, c.put.ensures.bound);
-    }
+    put_listed c.loop-channel.channel (λ k. filed (m.reading c.args.state k)) c.loop-channel.invariant c.put_number.ensures value

@@ -1,11 +1,7 @@
-use Rattle.std.proofs.Common.{◌+◌, ◌*◌, ◌≤◌}
 use Rattle.codec.specs.Filing.{filed}
 use Rattle.systems.specs.Bounded.{listed_below}
-use Rattle.files.specs.Put.{Wrote}
+use Rattle.files.specs.Wrote.{Wrote}
 use Rattle.files.proofs.small.SmallSystem.put_readings.Given as goal
 
 abbrev pub invariant-loop-channel : goal.invariant-loop-channel
-invariant-loop-channel g l = record {
-  put : Wrote l.initial.writer (listed_below l.channel λ k. filed ((g.S.System.meaning l.self.system.now).reading l.state k)) l.writer;
-  bound : l.writer.place ≤ l.initial.writer.place + 3 * l.channel;
-}
+invariant-loop-channel g l = Wrote l.initial.writer (listed_below l.channel λ k. filed ((g.S.System.meaning l.self.system.now).reading l.state k)) l.writer
