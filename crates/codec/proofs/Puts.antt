@@ -41,7 +41,7 @@ put_numbers-append before [] ms = refl
 put_numbers-append before (n ∷ ns) ms = put_numbers-append (put_number before n) ns ms
 
 -- a number takes at most three bytes
-encoded_short : (n : ℕ) → length (encoded n) ≤ 3
+pub encoded_short : (n : ℕ) → length (encoded n) ≤ 3
 encoded_short n = grind (arith, nat_tests)
 
 pub spelled_short : (ns : List ℕ) → length (spelled ns) ≤ 3 * length ns

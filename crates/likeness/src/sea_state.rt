@@ -1,6 +1,6 @@
 //! The likeness of wave heights with the same sea state.
-ghost use Rattle.std.specs.Prelude.{◌≡◌, count_by, int_lt};
-ghost use Rattle.likeness.specs.SeaState.{InClass, class_ends, class_of, same_sea_state};
+ghost use Rattle.std.specs.Prelude.{◌≡◌};
+ghost use Rattle.likeness.specs.SeaState.{InClass, class_of, same_sea_state};
 
 use crate::exact::Exact;
 use crate::likeness::Likeness;
@@ -14,13 +14,6 @@ pub struct SeaState {
     channel: u8,
 }
 
-/// How many class ends lie below the height.
-fn ends_below(height: i16) -> usize
-    ensures { result ≡ count_by (λ end. int_lt end height) class_ends }
-{
-    CLASS_ENDS.iter().filter(|end| **end < height).count()
-}
-
 /// The sea state class of a height in centimetres, 0 to 9: how many class ends lie below the height.
 ///
 /// Class 9 lies above the last end, and a negative height has class 0.
@@ -28,8 +21,13 @@ pub fn sea_state_class(height: i16) -> u8
     ensures answer { result ≡ class_of height }
     ensures rule { InClass height result }
 {
-    // a cast of what is at most 9: a `TryFrom` would bring an error that never comes
-    ends_below(height) as u8
+    let mut class = 0;
+    for end in CLASS_ENDS {
+        if end < height {
+            class += 1;
+        }
+    }
+    class
 }
 
 impl SeaState {

@@ -39,6 +39,17 @@ pub all_below_false : (n k : ℕ) (f : ℕ → Bool) → k < n → f k ≡ false
 all_below_false n k f l e =
     elim (cases_Bool (all_below n f)) [ inl h ↦ absurd (both_ways (f k) e (all_below_true n f h k l)) | inr h ↦ h ]
 
+-- a test that is passed just where every number below the bound passes
+pub all_below_is : (n : ℕ) (f : ℕ → Bool) (r : Bool) → Decides r ((k : ℕ) → k < n → f k ≡ true) → r ≡ all_below n f
+all_below_is n f r (sound, complete) =
+    elim (cases_Bool r) [
+      | inl passed ↦ passed ∙ sym (all_below_from n f (sound passed))
+      | inr failed ↦ failed ∙ sym (elim (cases_Bool (all_below n f)) [
+        | inl h ↦ absurd (both_ways r failed (complete (all_below_true n f h)))
+        | inr h ↦ h
+      ])
+    ]
+
 -- a loop's step
 pub all_below_more : (k : ℕ) (f : ℕ → Bool) → all_below k f ≡ true → f k ≡ true → all_below (k + 1) f ≡ true
 all_below_more k f h e = rw add-one (and_from (f k) (all_below k f) e h)

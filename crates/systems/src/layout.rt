@@ -56,7 +56,7 @@ impl LayoutFault {
 }
 
 /// Where the row of a state begins.
-pub(crate) fn row_place(channels: u16, state: u16) -> usize
+pub fn row_place(channels: u16, state: u16) -> usize
     ensures { result ≡ row_place channels state }
 {
     HEADER_WORDS + usize::from(state) * row_words(channels)

@@ -21,9 +21,11 @@ pub use buffer::Buffer;
 pub use code_list::{CodeFault, CodeList, MOST_CODES};
 pub use joint::Joint;
 pub use layout::{
-    LayoutFault, MAX_CHANNELS, MAX_MOVE_PAIRS, MAX_MOVES, MAX_STATES, check_layout, row_range,
-    words_taken, write_header,
+    LayoutFault, MAX_CHANNELS, MAX_MOVE_PAIRS, MAX_MOVES, MAX_STATES, check_layout, row_place,
+    row_range, words_taken, write_header,
 };
+pub use offsets::row_words;
+pub use reading::READING_BIAS;
 pub use row_mut::RowMut;
 pub use stored::Stored;
 pub use system::System;

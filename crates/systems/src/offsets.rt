@@ -15,7 +15,7 @@ const MOVE_STRIDE: usize = MAX_MOVES as usize;
 pub(crate) const NEXT_WORDS: usize = MAX_MOVE_PAIRS;
 
 /// How many words the row of a state takes.
-pub(crate) fn row_words(channels: u16) -> usize
+pub fn row_words(channels: u16) -> usize
     ensures { result ≡ row_words channels }
 {
     usize::from(channels) + COUNT_WORDS + NEXT_WORDS

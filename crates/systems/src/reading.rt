@@ -3,7 +3,7 @@ ghost use Rattle.std.specs.Prelude.{◌≡◌};
 ghost use Rattle.systems.specs.Layout.{biased, unbiased};
 
 /// A reading is stored with this added.
-const READING_BIAS: i32 = 32_768;
+pub const READING_BIAS: i32 = 32_768;
 
 /// The word that holds reading 0.
 // A cast, since no `From` goes into a constant.

@@ -1,8 +1,8 @@
 //! The row of a state in the words of a stored system.
-ghost use Rattle.std.specs.Prelude.{◌≡◌, ◌<◌, ◌≤◌, Some, None, MatchResult};
+ghost use Rattle.std.specs.Prelude.{◌≡◌, ℕ, ◌<◌, ◌≤◌, All, Some, None, Decides, MatchResult, length, slice_index};
 ghost use Rattle.systems.specs.Bounded.{between};
 ghost use Rattle.systems.specs.Limits.{max_moves};
-ghost use Rattle.systems.specs.Layout.{RowHeld, channel_count, controller_word, environment_word, move_fits, next_fits, next_states_fit, next_word, reading_word, row_fault, row_word, row_words};
+ghost use Rattle.systems.specs.Layout.{RowHeld, channel_count, controller_word, environment_word, move_fits, next_states_fit, next_word, reading_word, row_fault, row_word, row_words};
 
 use crate::layout::{CHANNELS_AT, LayoutFault, MAX_MOVES, STATES_AT, row_place};
 use crate::offsets::{controller_at, environment_at, next_at, reading_at};
@@ -20,6 +20,13 @@ fn is_move_count(count: u16) -> bool
     ensures { result ≡ between 1 max_moves count }
 {
     (1..=MAX_MOVES).contains(&count)
+}
+
+/// Whether every number is below the bound.
+fn are_below(numbers: &[u16], bound: u16) -> bool
+    ensures { Decides result (All (λ number. number < bound) numbers.now) }
+{
+    numbers.iter().all(|number| *number < bound)
 }
 
 impl Row<'_> {
@@ -70,13 +77,17 @@ impl Row<'_> {
         self.word(next_at(self.channels(), controller, environment))
     }
 
-    /// Whether the next state of a pair of moves is a state.
-    fn next_fits(&self, controller: u16, environment: u16) -> bool
+    /// The next states that are used with the controller's move.
+    fn next_states(&self, controller: u16) -> &[u16]
         requires controller { controller < max_moves }
-        requires environment { environment < max_moves }
-        ensures { result ≡ next_fits self.now.words.now self.now.state controller environment }
+        requires environment { environment_word self.now.words.now self.now.state ≤ max_moves }
+        ensures long { length result.now ≡ environment_word self.now.words.now self.now.state }
+        ensures states { (b : ℕ) → b < environment_word self.now.words.now self.now.state
+            → slice_index result.now b ≡ next_word self.now.words.now self.now.state controller b }
     {
-        self.next(controller, environment) < self.words[STATES_AT]
+        let start = row_place(self.channels(), self.state)
+            + next_at(self.channels(), controller, 0);
+        &self.words[start..start + usize::from(self.environment_moves())]
     }
 
     /// Whether every next state that is used with the controller's move is a state.
@@ -85,7 +96,7 @@ impl Row<'_> {
         requires environment { environment_word self.now.words.now self.now.state ≤ max_moves }
         ensures { result ≡ move_fits self.now.words.now self.now.state controller }
     {
-        (0..self.environment_moves()).all(|environment| self.next_fits(controller, environment))
+        are_below(self.next_states(controller), self.words[STATES_AT])
     }
 
     /// Whether every next state that is used is a state.

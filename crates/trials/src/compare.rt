@@ -2,7 +2,7 @@
 use crate::draw::{Generator, Shape};
 use crate::solve::solve;
 use arena::{Board, BoardMut, Cause, Exchange, number_of_pairs};
-use docket::{Docket, Settlement, Strike, check_certificate};
+use docket::{Docket, Grant, Refusal, Settlement, Strike, check_certificate};
 use likeness::Likeness;
 use ranking::rank;
 use std::alloc::{AllocError, Global};
@@ -96,23 +96,19 @@ impl<'a, S: System, T: System, L: Likeness> Case<'a, S, T, L> {
         })
     }
 
-    /// Whether the docket decides as the simulation does, with the strikes proposed. Every second list of answers has no room at first.
+    /// Whether the docket decides as the simulation does, with the strikes proposed and an empty list lent for their answers.
     fn is_decided(
         &mut self,
-        heap: Global,
         docket: &mut Docket,
         strikes: &[Strike],
-    ) -> Result<bool, AllocError> {
-        let mut answers = match strikes.len() % 2 {
-            0 => Vec::new(heap),
-            _ => Vec::with_capacity(heap, strikes.len())?,
-        };
-        let decided = docket.decide(&self.exchange, &mut self.table, strikes, &mut answers);
-        Ok(decided.is_ok_and(|outcome| {
+        answers: &mut Vec<Result<Grant, Refusal>>,
+    ) -> bool {
+        let decided = docket.decide(&self.exchange, &mut self.table, strikes, answers);
+        decided.is_ok_and(|outcome| {
             answers.len() == strikes.len()
                 && self.has_size(outcome.standing)
                 && outcome.replaces == self.replaces()
-        }))
+        })
     }
 
     /// Whether the settle check says that the pairs of the simulation stand.
@@ -153,11 +149,12 @@ impl<'a, S: System, T: System, L: Likeness> Case<'a, S, T, L> {
     }
 }
 
-/// A row of trials: the generator that they draw from, and what they compared so far.
+/// A row of trials: the generator that they draw from, how many lists they lent, and what they compared so far.
 #[derive(Drop)]
 pub(crate) struct Trials {
     heap: Global,
     generator: Generator,
+    lists: u32,
     pub(crate) tally: Tally,
 }
 
@@ -167,7 +164,17 @@ impl Trials {
         Trials {
             heap,
             generator: Generator::new(seed),
+            lists: 0,
             tally: Tally::default(),
+        }
+    }
+
+    /// A list for so many answers to lend to a decision. Every second one has no room at first.
+    fn list_for(&mut self, answers: usize) -> Result<Vec<Result<Grant, Refusal>>, AllocError> {
+        self.lists = self.lists.saturating_add(1);
+        match self.lists % 2 {
+            0 => Ok(Vec::new(self.heap)),
+            _ => Vec::with_capacity(self.heap, answers),
         }
     }
 
@@ -195,8 +202,9 @@ impl Trials {
             case.draw_strike(&mut self.generator),
         ];
         let mut docket = Docket::new();
+        let mut answers = self.list_for(strikes.len())?;
         self.tally
-            .count(case.is_decided(self.heap, &mut docket, &strikes)?);
+            .count(case.is_decided(&mut docket, &strikes, &mut answers));
         self.tally.count(case.stand_alike());
         self.tally.count(case.is_settled(&docket));
         self.tally.count(case.is_certified());

@@ -2,7 +2,7 @@
 ghost use Rattle.std.specs.Prelude.{◌≡◌, ◌*◌, ◌≤◌, length, if◌then◌else◌, Some, None, OnOk};
 ghost use Rattle.systems.specs.Refused.{unless};
 ghost use Rattle.arena.specs.Table.{pairs};
-ghost use Rattle.docket.specs.Position.{closed, position};
+ghost use Rattle.docket.specs.Position.{WithinBounds, closed, position};
 ghost use Rattle.docket.specs.Refusals.{use_refusal};
 ghost use Rattle.docket.specs.Seen.{ledger_view};
 ghost use Rattle.docket.specs.Use.{InUse};
@@ -20,17 +20,19 @@ impl Docket {
         Docket { ledger: None }
     }
 
-    /// For how many old and new states the docket was opened; none if it is closed.
+    /// For how many old and new states the docket was opened, at most 256 of each; none if it is closed.
     pub fn sizes(&self) -> Option<(u16, u16)>
-        ensures { result ≡ (if self.now.is_open then Some (self.now.old_states, self.now.new_states) else None) }
+        ensures answer { result ≡ (if self.now.is_open then Some (self.now.old_states, self.now.new_states) else None) }
+        ensures bounds { WithinBounds self.now }
     {
         self.ledger.map(|ledger| (ledger.rows, ledger.columns))
     }
 
-    /// How many strikes it has granted since it was opened.
+    /// How many strikes it has granted since it was opened, at most as many as there are pairs.
     // 0 of a closed docket and no `Option`: a result that was left open, and is settled in docs/DECISIONS.md
     pub fn count(&self) -> u32
-        ensures { result ≡ self.now.count }
+        ensures answer { result ≡ self.now.count }
+        ensures bounds { WithinBounds self.now }
     {
         self.ledger.map_or(0, |ledger| ledger.count)
     }

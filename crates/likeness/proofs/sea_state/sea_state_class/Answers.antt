@@ -1,17 +1,14 @@
-use Rattle.std.proofs.Common.{◌≡◌, ◌∙◌, to_z, of_z, w16, rules, arith}
-use Rattle.likeness.specs.SeaState.{class_ends, class_of}
-use Rattle.likeness.proofs.Ascending.{counted, in_class}
+use Rattle.std.proofs.Common.{◌≡◌, pos, rules}
+use Rattle.std.proofs.lemmas.List.{at_drop_more}
+use Rattle.likeness.specs.SeaState.{class_ends, class_of, ends_below}
+use Rattle.likeness.proofs.Ascending.{in_class}
 use Rattle.likeness.proofs.sea_state.sea_state_class.Goals as goal
 
--- the count of the ends, at the height that was given
-class_is : (c : goal.After-ends_below) → c.ends_below.result ≡ class_of c.args.height
+pub loop-end-init : goal.loop-end-init
 unfolding class_of
-class_is c =
-    let same : to_z w16 (of_z w16 c.args.height) ≡ c.args.height = search rules in
-    simp same at c.ends_below.ensures ∙ counted class_ends c.args.height
-
-pub overflow_cast-result : goal.overflow_cast-result
-overflow_cast-result c = omega (arith, class_is c, (in_class c.args.height).a_class)
+loop-end-init c = (search rules, search rules, λ n l. at_drop_more (ends_below _) class_ends n (pos 0) l)
 
 pub returns : goal.returns
-returns c = record { answer = class_is c; rule = rw (class_is c) (in_class c.args.height) }
+returns c =
+    let counted : c.loop-end.class ≡ class_of c.args.height = search rules in
+    record { answer = counted; rule = rw counted (in_class c.args.height) }
