@@ -1,12 +1,12 @@
 //! One trial: the docket's calls beside the second solution.
 use crate::draw::{Generator, Shape};
+use crate::pair_set::PairSet;
 use crate::solve::solve;
 use arena::{Board, BoardMut, Cause, Exchange, number_of_pairs};
 use docket::{Docket, Grant, Refusal, Settlement, Strike, check_certificate};
 use likeness::Likeness;
 use ranking::rank;
 use std::alloc::{AllocError, Global};
-use std::collections::BTreeSet;
 use systems::System;
 
 /// What was compared so far.
@@ -32,7 +32,7 @@ impl Tally {
 #[derive(Drop)]
 struct Case<'a, S, T, L> {
     exchange: Exchange<'a, S, T, L>,
-    simulation: BTreeSet<(u16, u16)>,
+    simulation: PairSet,
     table: Vec<u32>,
 }
 
@@ -61,7 +61,7 @@ impl<'a, S: System, T: System, L: Likeness> Case<'a, S, T, L> {
 
     /// Whether the pair of start states is in the simulation.
     fn replaces(&self) -> bool {
-        self.simulation.contains(&(0, 0))
+        self.simulation.contains((0, 0))
     }
 
     /// Whether the simulation has so many pairs.
@@ -84,7 +84,7 @@ impl<'a, S: System, T: System, L: Likeness> Case<'a, S, T, L> {
         (0..self.rows()).all(|old_state| {
             (0..self.columns()).all(|new_state| {
                 let pair = (old_state, new_state);
-                self.stands(pair) == self.simulation.contains(&pair)
+                self.stands(pair) == self.simulation.contains(pair)
             })
         })
     }

@@ -9,6 +9,7 @@ use systems::{CodeList, Joint, Stored};
 
 mod compare;
 mod draw;
+mod pair_set;
 mod solve;
 
 /// How many exchanges of each sort are drawn.

@@ -1,7 +1,7 @@
 //! The largest simulation found a second way: a set of pairs that shrinks until none has to go.
+use crate::pair_set::PairSet;
 use likeness::Likeness;
 use std::alloc::{AllocError, Global};
-use std::collections::BTreeSet;
 use systems::System;
 
 /// Two systems, the likeness that compares them, and the pairs that have not had to go.
@@ -10,7 +10,7 @@ struct Search<'a, S, T, L> {
     old: &'a S,
     new: &'a T,
     likeness: &'a L,
-    pairs: BTreeSet<(u16, u16)>,
+    pairs: PairSet,
 }
 
 impl<S: System, T: System, L: Likeness> Search<'_, S, T, L> {
@@ -29,7 +29,7 @@ impl<S: System, T: System, L: Likeness> Search<'_, S, T, L> {
     fn can_meet(&self, state: u16, controller: u16, reached: u16) -> bool {
         (0..self.old.environment_moves(state)).any(|environment| {
             let next = self.old.next(state, controller, environment);
-            self.pairs.contains(&(next, reached))
+            self.pairs.contains((next, reached))
         })
     }
 
@@ -57,28 +57,19 @@ impl<S: System, T: System, L: Likeness> Search<'_, S, T, L> {
     }
 
     /// Takes out of the set every pair that cannot stay; tells whether there was one.
-    fn shrink(&mut self, heap: Global) -> Result<bool, AllocError> {
-        let staying: BTreeSet<(u16, u16)> = self
-            .pairs
-            .iter()
-            .copied()
-            .filter(|pair| self.can_stay(*pair))
-            .collect(heap)?;
-        let shrunk = staying.len() < self.pairs.len();
-        self.pairs = staying;
-        Ok(shrunk)
-    }
-}
-
-/// Every pair of a row and a column.
-fn every_pair(heap: Global, rows: u16, columns: u16) -> Result<BTreeSet<(u16, u16)>, AllocError> {
-    let mut pairs = BTreeSet::new(heap);
-    for row in 0..rows {
-        for column in 0..columns {
-            pairs.insert((row, column))?;
+    fn shrink(&mut self) -> bool {
+        let mut shrunk = false;
+        for old_state in 0..self.old.states() {
+            for new_state in 0..self.new.states() {
+                let pair = (old_state, new_state);
+                if self.pairs.contains(pair) && !self.can_stay(pair) {
+                    self.pairs.remove(pair);
+                    shrunk = true;
+                }
+            }
         }
+        shrunk
     }
-    Ok(pairs)
 }
 
 /// The pairs of the largest simulation.
@@ -87,8 +78,8 @@ pub(crate) fn solve<S: System, T: System, L: Likeness>(
     old: &S,
     new: &T,
     likeness: &L,
-) -> Result<BTreeSet<(u16, u16)>, AllocError> {
-    let pairs = every_pair(heap, old.states(), new.states())?;
+) -> Result<PairSet, AllocError> {
+    let pairs = PairSet::every(heap, old.states(), new.states())?;
     let most_turns = pairs.len();
     let mut search = Search {
         old,
@@ -96,9 +87,9 @@ pub(crate) fn solve<S: System, T: System, L: Likeness>(
         likeness,
         pairs,
     };
-    // each turn but the last takes out a pair; a loop, which `?` leaves more plainly than a chain
+    // each turn but the last takes out a pair
     for _ in 0..most_turns {
-        if !search.shrink(heap)? {
+        if !search.shrink() {
             break;
         }
     }
