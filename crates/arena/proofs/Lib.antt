@@ -1,4 +1,5 @@
 pub mod Bounds
+pub mod Entries
 pub mod Places
 pub mod Refuting
 pub mod Simulation

@@ -1,6 +1,6 @@
 //! An arena with a table laid over its pairs, to be read.
-ghost use Rattle.std.specs.Prelude.{◌≡◌};
-ghost use Rattle.arena.specs.Table.{entry, highest, number_of, number_standing, start_stands, stands};
+ghost use Rattle.std.specs.Prelude.{◌≡◌, take};
+ghost use Rattle.arena.specs.Table.{entry, highest, number_of, number_standing, pairs, start_stands, stands};
 
 use crate::arena::Arena;
 use crate::entry::{number_in, says_standing};
@@ -52,27 +52,37 @@ impl<A: Arena> Board<'_, A> {
             && self.stands(START)
     }
 
+    /// The entries of the pairs, as far as the table reaches.
+    fn entries_of_pairs(&self) -> &[u32]
+        ensures { result.now ≡ take (pairs (A.Arena.view self.now.arena.now)) self.now.table.now }
+    {
+        &self.table[..number_of_pairs(self.arena).min(self.table.len())]
+    }
+
     /// How many pairs stand.
     pub fn number_standing(&self) -> u32
         ensures { result ≡ number_standing (A.Arena.view self.now.arena.now) self.now.table.now }
     {
-        // by place, here and below, and no chain over the entries: a table may be shorter than there are pairs
+        let entries = self.entries_of_pairs();
+        let past = number_of_pairs(self.arena) - entries.len();
         let mut standing = 0;
-        for place in 0..number_of_pairs(self.arena) {
-            if says_standing(entry_at(self.table, place)) {
+        for entry in entries {
+            if says_standing(*entry) {
                 standing += 1;
             }
         }
-        standing
+        // a pair past the end of the table stands; a cast, since there are fewer than 2 ^ 32 pairs
+        standing + past as u32
     }
 
     /// The highest number as which a pair was struck, 0 where every pair stands.
+    #[tactic(auto, using(crate::proofs::Entries::highest_in))]
     pub fn highest(&self) -> u32
         ensures { result ≡ highest (A.Arena.view self.now.arena.now) self.now.table.now }
     {
         let mut highest = 0;
-        for place in 0..number_of_pairs(self.arena) {
-            highest = number_in(entry_at(self.table, place)).max(highest);
+        for entry in self.entries_of_pairs() {
+            highest = number_in(*entry).max(highest);
         }
         highest
     }

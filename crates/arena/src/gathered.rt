@@ -2,9 +2,10 @@
 ghost use Rattle.std.specs.Prelude.{◌≡◌, ℕ, ◌+◌, ◌*◌, ◌<◌, ◌≤◌, length, nat_le, IfSome};
 ghost use Rattle.systems.specs.Limits.{max_move_pairs, max_moves, max_states};
 ghost use Rattle.arena.specs.Gathered.{Answers, FewMoves, LeadsTo};
-ghost use Rattle.arena.specs.Table.{pairs};
+ghost use Rattle.arena.specs.Table.{number_standing, pairs};
 
 use crate::arena::Arena;
+use crate::board::Board;
 use crate::table::number_of_pairs;
 use systems::{MAX_MOVE_PAIRS, MAX_MOVES, MAX_STATES};
 
@@ -15,7 +16,7 @@ const STATE_SLOTS: usize = MAX_STATES as usize;
 /// How many slots the next states take.
 const NEXT_SLOTS: usize = STATE_SLOTS * MAX_MOVE_PAIRS;
 
-/// From so many pairs on, a visit of all of them saves more questions than gathering asks.
+/// From so many pairs on, visiting them saves more questions than gathering asks.
 const GATHERED_PAIRS: usize = 1_024;
 
 /// Whether it pays to gather the arena for a visit of all its pairs.
@@ -23,6 +24,18 @@ pub fn pays_to_gather<A: Arena>(arena: &A) -> bool
     ensures { result ≡ nat_le GATHERED_PAIRS (pairs (A.Arena.view arena.now)) }
 {
     number_of_pairs(arena) >= GATHERED_PAIRS
+}
+
+impl<A: Arena> Board<'_, A> {
+    /// Whether it pays to gather the arena for a visit of the pairs that stand.
+    pub fn pays_to_gather_for_standing(&self) -> bool
+        ensures { result
+            ≡ nat_le GATHERED_PAIRS
+            (number_standing (A.Arena.view self.now.arena.now) self.now.table.now) }
+    {
+        // a cast, since no `From` goes from `u32` to `usize`
+        self.number_standing() as usize >= GATHERED_PAIRS
+    }
 }
 
 /// The moves at the first states of a system, and where they lead.

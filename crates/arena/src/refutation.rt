@@ -21,22 +21,25 @@ impl<A: Arena> Board<'_, A> {
     /// The least of the old controller's moves in the range that refutes the pair.
     ///
     /// A move refutes the pair if no reply of the new controller will do: its environment can spoil each, by a move after which only struck pairs are reached, whatever the old environment does.
+    // Made part of what asks it, as are the questions below: there it is known which pairs count as struck, so that the innermost loop tests an entry once, and what a state's moves have in common need not be asked again. Each loop asks for its own number of moves, so that a next state within these needs no further test.
     #[inline(always)]
-    fn search(&self, before: Option<u32>, pair: (u16, u16), moves: Range<u16>) -> Option<u16>
+    pub fn least_refuting_move(
+        &self,
+        before: Option<u32>,
+        pair: (u16, u16),
+        moves: Range<u16>,
+    ) -> Option<u16>
         ensures { result ≡ least_refuting (A.Arena.view self.now.arena.now) (struck (A.Arena.view self.now.arena.now) self.now.table.now before) pair.0 pair.1 moves.start moves.end }
     {
         let board = *self;
         let arena = board.arena;
         let (old_state, new_state) = pair;
-        let replies = arena.new_controller_moves(new_state);
-        let answers = arena.new_environment_moves(new_state);
-        let environments = arena.old_environment_moves(old_state);
         // by a rule of this project four nested loops, three with labels, left from inside where a reply is spoilt
         'moves: for controller in moves {
-            'replies: for reply in 0..replies {
-                'answers: for answer in 0..answers {
+            'replies: for reply in 0..arena.new_controller_moves(new_state) {
+                'answers: for answer in 0..arena.new_environment_moves(new_state) {
                     let to = arena.new_next(new_state, reply, answer);
-                    for environment in 0..environments {
+                    for environment in 0..arena.old_environment_moves(old_state) {
                         let from = arena.old_next(old_state, controller, environment);
                         if !board.is_struck(before, (from, to)) {
                             continue 'answers;
@@ -51,46 +54,8 @@ impl<A: Arena> Board<'_, A> {
         None
     }
 
-    /// The search where every struck pair counts.
-    #[inline(never)]
-    fn search_by_all(&self, pair: (u16, u16), moves: Range<u16>) -> Option<u16>
-        ensures { result ≡ least_refuting (A.Arena.view self.now.arena.now) (struck (A.Arena.view self.now.arena.now) self.now.table.now None) pair.0 pair.1 moves.start moves.end }
-    {
-        self.search(None, pair, moves)
-    }
-
-    /// The search where only the pairs struck as smaller numbers count.
-    #[inline(never)]
-    fn search_by_numbers_before(
-        &self,
-        number: u32,
-        pair: (u16, u16),
-        moves: Range<u16>,
-    ) -> Option<u16>
-        ensures { result ≡ least_refuting (A.Arena.view self.now.arena.now) (struck (A.Arena.view self.now.arena.now) self.now.table.now (Some number)) pair.0 pair.1 moves.start moves.end }
-    {
-        self.search(Some(number), pair, moves)
-    }
-
-    /// The least of the old controller's moves in the range that refutes the pair.
-    ///
-    /// A move refutes the pair if no reply of the new controller will do: its environment can spoil each, by a move after which only struck pairs are reached, whatever the old environment does.
-    // Two functions, so that the innermost loop of each has one test of an entry, and no more variables than a processor keeps at hand.
-    pub fn least_refuting_move(
-        &self,
-        before: Option<u32>,
-        pair: (u16, u16),
-        moves: Range<u16>,
-    ) -> Option<u16>
-        ensures { result ≡ least_refuting (A.Arena.view self.now.arena.now) (struck (A.Arena.view self.now.arena.now) self.now.table.now before) pair.0 pair.1 moves.start moves.end }
-    {
-        match before {
-            None => self.search_by_all(pair, moves),
-            Some(number) => self.search_by_numbers_before(number, pair, moves),
-        }
-    }
-
     /// What there is to strike the pair for: sight if it is unlike, else its least refuting move.
+    #[inline(always)]
     pub fn cause(&self, pair: (u16, u16)) -> Option<Cause>
         ensures { result ≡ cause_of (A.Arena.view self.now.arena.now) self.now.table.now pair.0 pair.1 }
     {
@@ -103,6 +68,7 @@ impl<A: Arena> Board<'_, A> {
     }
 
     /// Whether some move of the old controller refutes the pair.
+    #[inline(always)]
     #[tactic(auto, using(crate::proofs::Refuting::some_refutes))]
     pub fn is_refuted(&self, before: Option<u32>, pair: (u16, u16)) -> bool
         ensures { result ≡ refuted (A.Arena.view self.now.arena.now) (struck (A.Arena.view self.now.arena.now) self.now.table.now before) pair.0 pair.1 }
@@ -112,6 +78,7 @@ impl<A: Arena> Board<'_, A> {
     }
 
     /// Whether the pair is unlike, or some move refutes it.
+    #[inline(always)]
     fn is_faulty(&self, before: Option<u32>, pair: (u16, u16)) -> bool
         ensures { result ≡ faulty (A.Arena.view self.now.arena.now) (struck (A.Arena.view self.now.arena.now) self.now.table.now before) pair.0 pair.1 }
     {
@@ -119,6 +86,7 @@ impl<A: Arena> Board<'_, A> {
     }
 
     /// Whether the pair is loose: it stands, and is unlike or refuted.
+    #[inline(always)]
     pub fn is_loose(&self, pair: (u16, u16)) -> bool
         ensures { result ≡ loose (A.Arena.view self.now.arena.now) self.now.table.now pair.0 pair.1 }
     {
@@ -126,6 +94,7 @@ impl<A: Arena> Board<'_, A> {
     }
 
     /// Whether the pair is in order: a struck one is unlike, or refuted when only the pairs with smaller numbers are taken for struck; a standing one is not loose.
+    #[inline(always)]
     pub fn is_in_order(&self, pair: (u16, u16)) -> bool
         ensures { result ≡ in_order (A.Arena.view self.now.arena.now) self.now.table.now pair.0 pair.1 }
     {

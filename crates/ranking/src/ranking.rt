@@ -6,7 +6,7 @@ ghost use Rattle.arena.specs.Table.{highest, pairs, stands, struck};
 ghost use Rattle.docket.specs.Refusals.{opening_refusal};
 ghost use Rattle.ranking.specs.Rank.{RanksRight, first_round, rank_does, rank_round, rank_rounds, rank_says, ranked, sight_pair, sighted};
 
-use arena::{Arena, Board, BoardMut, Gathered, pays_to_gather};
+use arena::{Arena, Board, BoardMut, Gathered};
 use docket::{Refusal, check_opening};
 
 /// The rank of an unlike pair.
@@ -94,25 +94,34 @@ fn rank_rounds<A: Arena>(board: &mut BoardMut<'_, A>)
     }
 }
 
+/// Ranks the pairs that sight left standing, over the gathered arena.
+// By itself, since only a call that gathers needs the stack for it.
+#[inline(never)]
+fn rank_rounds_gathered<A: Arena>(arena: &A, table: &mut [u32])
+    ensures { table.new
+        ≡ rank_rounds (A.Arena.view arena.now)
+        (pairs (A.Arena.view arena.now)) first_round table.old }
+{
+    rank_rounds(&mut BoardMut {
+        arena: &Gathered::new(arena),
+        table,
+    });
+}
+
 /// Writes every pair's rank, and answers the highest.
+// Sight asks for readings alone, which are not gathered, and may leave few pairs to visit.
 fn write_in_rounds<A: Arena>(arena: &A, table: &mut [u32]) -> u32
     ensures highest { result ≡ highest (A.Arena.view arena.now) (ranked (A.Arena.view arena.now) table.old) }
     ensures after { table.new ≡ ranked (A.Arena.view arena.now) table.old }
 {
     let mut board = BoardMut { arena, table };
     sight_round(&mut board);
-    rank_rounds(&mut board);
+    if board.board().pays_to_gather_for_standing() {
+        rank_rounds_gathered(arena, board.table);
+    } else {
+        rank_rounds(&mut board);
+    }
     board.board().highest()
-}
-
-/// Writes every pair's rank over the gathered arena, and answers the highest.
-// By itself, since only a call that gathers needs the stack for it.
-#[inline(never)]
-fn write_gathered<A: Arena>(arena: &A, table: &mut [u32]) -> u32
-    ensures highest { result ≡ highest (A.Arena.view arena.now) (ranked (A.Arena.view arena.now) table.old) }
-    ensures after { table.new ≡ ranked (A.Arena.view arena.now) table.old }
-{
-    write_in_rounds(&Gathered::new(arena), table)
 }
 
 /// Writes every pair's rank and answers the highest, unless the systems or the table do not serve.
@@ -121,11 +130,7 @@ fn write_ranks<A: Arena>(arena: &A, table: &mut [u32]) -> Result<u32, Refusal>
     ensures after { table.new ≡ rank_does (A.Arena.view arena.now) table.old }
 {
     check_opening(arena, table.len())?;
-    Ok(if pays_to_gather(arena) {
-        write_gathered(arena, table)
-    } else {
-        write_in_rounds(arena, table)
-    })
+    Ok(write_in_rounds(arena, table))
 }
 
 /// Writes every pair's rank: how soon it is refuted, where only pairs of smaller ranks count as struck. Answers the highest rank.

@@ -26,7 +26,12 @@ fn is_move_count(count: u16) -> bool
 fn are_below(numbers: &[u16], bound: u16) -> bool
     ensures { Decides result (All (λ number. number < bound) numbers.now) }
 {
-    numbers.iter().all(|number| *number < bound)
+    for number in numbers {
+        if *number >= bound {
+            return false;
+        }
+    }
+    true
 }
 
 impl Row<'_> {
